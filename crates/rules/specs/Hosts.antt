@@ -1,0 +1,24 @@
+-- "A C host gets one 64-bit number."
+--   packed w       = a refusal as number * 2^40 + file * 2^32 + line * 256 + column
+--   hostNumber a   = an answer as that number; 0 where there is none
+--   numbersOf b    = the 16-bit numbers of a byte slice, low byte first; a last odd byte is no place
+use Prim.Native.Nat.{ℕ, _+_, _*_, _^_}
+use mathlib.Core.List.{List, [], _∷_}
+use Rattle.rules.specs.Plan.{Refusal, №}
+use Rattle.rules.specs.Check.{Answer, accepted, refusal, trace, channel, highest, noTrace}
+
+unfoldable pub packed : Refusal → ℕ
+packed (№ n f l c) = n * 2 ^ 40 + f * 2 ^ 32 + l * 256 + c
+
+unfoldable pub hostNumber : Answer → ℕ
+hostNumber (accepted r s x t) = t
+hostNumber (refusal w) = packed w
+hostNumber (trace l m) = l * 16 + m
+hostNumber (channel c) = c
+hostNumber (highest c) = c
+hostNumber noTrace = 0
+
+unfoldable pub numbersOf : List ℕ → List ℕ
+numbersOf [] = []
+numbersOf (a ∷ []) = []
+numbersOf (a ∷ (b ∷ r)) = (a + 256 * b) ∷ numbersOf r

@@ -1,0 +1,58 @@
+-- "Small sets to try": set A and its changes, as bytes.
+--   put c t l          = line l with the text t from column c on
+--   headers            = H00 to H20, H18 holding `UTM;`
+--   pointLine          = a line of R or S: letter, line name, point, code
+--   relationLine       = a line of X: source point, channels and increment, receiver line name, receivers
+--   rOf, xOf           = an R file of three points, an X file of those lines
+--   rA, sA, xA         = set A
+use Prim.Native.Nat.{ℕ, zero, suc, _+_, _-_, _/_, _%_}
+use Prim.Native.String.{String}
+use mathlib.Core.List.{List, [], _∷_, _++_}
+use lib.ListN.{take, drop, replicate, length}
+use Rattle.rules.specs.Text.{bytes}
+use Rattle.rules.specs.Headers.{twoDigits}
+
+abbrev pub blankLine : List ℕ
+blankLine = replicate 80 32 ++ (13 ∷ 10 ∷ [])
+
+abbrev pub put : ℕ → List ℕ → List ℕ → List ℕ
+put c t l = take (c - 1) l ++ (t ++ drop (c - 1 + length t) l)
+
+abbrev pub header : ℕ → List ℕ
+header n = put 1 (bytes "H") (put 2 (twoDigits n) blankLine)
+
+abbrev pub headersFrom : ℕ → ℕ → List ℕ
+headersFrom zero k = []
+headersFrom (suc n) k = header k ++ headersFrom n (suc k)
+
+abbrev pub headers : List ℕ
+headers = headersFrom 18 0 ++ (put 33 (bytes "UTM;") (header 18) ++ headersFrom 2 19)
+
+abbrev pub pointLine : String → String → String → String → List ℕ
+pointLine letter name point code =
+    put 1 (bytes letter) (put 2 (bytes name) (put 18 (bytes point) (put 26 (bytes "1") (put 27 (bytes code)
+    (put 33 (bytes " 0.0   0") (put 47 (bytes "      0.0       0.0   0.0113071245") blankLine))))))
+
+abbrev pub relationLine : String → String → String → String → List ℕ
+relationLine point channels name receivers =
+    put 1 (bytes "X100     1111L1") (put 30 (bytes point) (put 38 (bytes "1")
+    (put 39 (bytes channels) (put 48 (bytes name) (put 64 (bytes receivers) (put 80 (bytes "1") blankLine))))))
+
+abbrev pub rOf : String → String → String → String → List ℕ
+rOf name a b c =
+    headers ++ (pointLine "R" name a "G1" ++ (pointLine "R" name b "G1" ++ pointLine "R" name c "G1"))
+
+abbrev pub xOf : List ℕ → List ℕ
+xOf lines = headers ++ lines
+
+abbrev pub rA : List ℕ
+rA = rOf "L1" "     101" "     102" "     103"
+
+abbrev pub sA : List ℕ
+sA = headers ++ pointLine "S" "L1" "     501" "V1"
+
+abbrev pub lineA : List ℕ
+lineA = relationLine "     501" "   1   31" "L1" "     101     103"
+
+abbrev pub xA : List ℕ
+xA = xOf lineA
