@@ -1,0 +1,71 @@
+-- "The (p) cases form a single proved table over the rules as defined": each row marked (p), on set A built from its description.
+use Prim.Native.Nat.{ℕ}
+use mathlib.Core.Path.{_≡_, refl}
+use mathlib.Core.List.{List, [], _∷_, _++_}
+use Rattle.rules.specs.Places
+use Rattle.rules.specs.Plan
+use Rattle.rules.specs.Text
+use Rattle.rules.specs.Numbers
+use Rattle.rules.specs.Kinds
+use Rattle.rules.specs.Layout
+use Rattle.rules.specs.Sheet
+use Rattle.rules.specs.Disc
+use Rattle.rules.specs.Names
+use Rattle.rules.specs.Lines
+use Rattle.rules.specs.Points
+use Rattle.rules.specs.Relations
+use Rattle.rules.specs.Cover
+use Rattle.rules.specs.Rows
+use Rattle.rules.specs.Form
+use Rattle.rules.specs.Headers
+use Rattle.rules.specs.Reaches
+use Rattle.rules.specs.Order
+use Rattle.rules.specs.Check
+use Rattle.rules.specs.Questions
+use Rattle.rules.specs.Lookup
+use Rattle.rules.specs.Spread
+use Rattle.rules.specs.Hosts
+use Rattle.rules.specs.Text.{bytes}
+use Rattle.rules.specs.Disc.{file}
+use Rattle.rules.specs.Plan.{№, fileR, fileX}
+use Rattle.rules.specs.Check.{Answer, accepted, refusal, trace, noTrace, check}
+use Rattle.rules.specs.Lookup.{lookup}
+use Rattle.rules.specs.SetA.{rOf, xOf, rA, sA, xA, lineA, relationLine}
+
+abbrev checkA : List ℕ → List ℕ → List ℕ → Answer
+checkA r s x = check (file r) (file s) (file x)
+
+abbrev lookupA : List ℕ → ℕ → ℕ → Answer
+lookupA x n c = lookup (file rA) (file sA) (file x) (bytes "100   ") n c
+
+abbrev xThree : List ℕ
+xThree = xOf (relationLine "     501" "   1   93" "L1" "     101     103")
+
+pub table :
+    lookupA xA 11 2
+    ∷ lookupA xA 12 2
+    ∷ checkA rA sA xThree
+    ∷ lookupA xThree 11 6
+    ∷ checkA rA sA (xOf (relationLine "     501" "   1   41" "L1" "     101     103"))
+    ∷ checkA rA sA (xOf (relationLine "     501" "   1   32" "L1" "     101     103"))
+    ∷ checkA rA sA (xOf (relationLine "     501" "   1   41" "L1" "     101     104"))
+    ∷ checkA (rOf "L1" "     101" "     103" "     102") sA xA
+    ∷ checkA (rOf "1   12" "     101" "     102" "     103") sA
+    (xOf (relationLine "     501" "   1   31" "11  2" "     101     103"))
+    ∷ checkA rA sA (xOf (relationLine "00000501" "   1   31" "L1" "     101     103"))
+    ∷ checkA rA sA (xOf (lineA ++ relationLine "     501" "   3   31" "L1" "     103     103"))
+    ∷ checkA rA sA (xOf (lineA ++ relationLine "     501" "   4   41" "L1" "     103     103")) ∷ []
+    ≡ trace 23 1
+    ∷ noTrace
+    ∷ accepted 3 1 1 9
+    ∷ trace 23 3
+    ∷ refusal (№ 6 fileX 22 72)
+    ∷ refusal (№ 6 fileX 22 47)
+    ∷ refusal (№ 18 fileX 22 64)
+    ∷ refusal (№ 10 fileR 24 2)
+    ∷ refusal (№ 18 fileX 22 64)
+    ∷ accepted 3 1 1 3
+    ∷ refusal (№ 17 fileX 23 39)
+    ∷ refusal (№ 19 fileX 23 64) ∷ []
+unfolding Places.pick Places.every Places.some Places.least Places.count Places.sum Places.greatest Places.ifBefore Places.isBefore Places.ofLast Plan._orElse_ Plan.firstOf Plan.run Text.col Text.cols Text.same Text.less Text.blank Text.bytes Text.oneOf Numbers.digit Numbers.digitsAfter Numbers.digits Numbers.whole Numbers.justified Numbers.negative Numbers.minusOr Numbers.signed Numbers.then Numbers.decimal Numbers.size Numbers.value Kinds.formed Kinds.between Kinds.within Kinds.allDigits Kinds.digit1 Kinds.indexOf Kinds.family Kinds.isCode Kinds.water Kinds.isTime Kinds.fits Layout.sps93 Layout.at Sheet.mostLines Disc.printable Disc.byteFits Disc.strayFrom Disc.disc Names.sameName Names.ranked Names.lessName Lines.letter Lines.isHeader Lines.isMarker Lines.isData Lines.isPoint Lines.heads Points.holds Points.nameOf Points.numberOf Points.indexAt Points.point Points.pointAt Points.isAt Points.samePoint Relations.reach Relations.relation Relations.reachAt Relations.relationAt Cover.traces Cover.carries Cover.receivers Cover.receiverOn Cover.covers Cover.leads Cover.component Cover.channelOf Cover.meet Rows.headerRows Rows.pointRows Rows.relationRows Form.rule1 Form.rule2 Form.rule3 Form.rule4 Form.fieldsFit Form.rule5 Form.rule6 Form.lineFits Form.form Headers.twoDigits Headers.isType Headers.rule7 Headers.cut Headers.freedBefore Headers.freedAfter Headers.projection Headers.rule8 Headers.sameColumns Headers.rule9 Reaches.reachesOf Reaches.ofRecord Reaches.mates Reaches.together Reaches.rises Reaches.once Reaches.search Order.above Order.earlier Order.rule10 Order.rule11 Order.rule12 Order.isPointAt Order.lineOfPoint Order.shotLine Order.receiverLine Order.rule13 Order.rule14 Order.names Order.rule15 Order.sameShot Order.rule16 Order.rule17 Order.receiversThere Order.rule18 Order.rule19 Check.relationFits Check.rules Check.verdict Check.points Check.relations Check.allTraces Check.answer Check.check Questions.recordAsked Questions.channelAsked Questions.lineAsked Questions.componentAsked Questions.rule20 Lookup.found Lookup.lookup Lookup.reaches Lookup.foundBack Lookup.wayBack Spread.highestOf Spread.lineOf Spread.componentOf Spread.turns Spread.rule21 Spread.spreadVerdict Spread.spread Spread.unlessRefused Spread.slice Hosts.packed Hosts.hostNumber Hosts.numbersOf
+table = refl
