@@ -1,0 +1,67 @@
+//! The form of one file: 1, 2, then line by line 3, 4, 5 and 6.
+
+use crate::lines::{columns, cut, Whole};
+use crate::{header, Fault, File, Line, Refusal};
+
+/// A well-formed file: its header block, then its data lines as they are read.
+pub struct Form<T> {
+    pub headers: Vec<Line>,
+    pub data: Vec<T>,
+}
+
+/// One line as it is read.
+enum Read<T> {
+    Header(Line),
+    Data(T),
+}
+
+impl<T> Form<T> {
+    /// Reads a file whose data lines start with its letter and are read by `read`.
+    pub fn of(
+        file: File,
+        bytes: &[u8],
+        read: impl Fn(&Line) -> Result<T, Fault>,
+    ) -> Result<Self, Refusal> {
+        let mut form = Form { headers: Vec::new(), data: Vec::new() };
+        for (number, whole) in (1..).zip(cut(file, bytes)?) {
+            let header_allowed = form.data.is_empty();
+            match one(file, whole, header_allowed, &read) {
+                Ok(Read::Header(line)) => form.headers.push(line),
+                Ok(Read::Data(data)) => form.data.push(data),
+                Err(fault) => return Err(fault.at(file, number)),
+            }
+        }
+        Ok(form)
+    }
+
+    /// The data lines with their line numbers.
+    pub fn numbered(&self) -> impl Iterator<Item = (u32, &T)> {
+        (self.headers.len() as u32 + 1..).zip(&self.data)
+    }
+}
+
+/// One line: 3, 4, then 5 and 6.
+fn one<T>(
+    file: File,
+    whole: &Whole,
+    header_allowed: bool,
+    read: impl Fn(&Line) -> Result<T, Fault>,
+) -> Result<Read<T>, Fault> {
+    let line = columns(whole)?;
+    if line[0] == b'H' && header_allowed {
+        header::read(line)?;
+        Ok(Read::Header(*line))
+    } else if line[0] == letter(file) {
+        read(line).map(Read::Data)
+    } else {
+        Err(Fault { number: 4, column: 1 })
+    }
+}
+
+fn letter(file: File) -> u8 {
+    match file {
+        File::R => b'R',
+        File::S => b'S',
+        File::X => b'X',
+    }
+}

@@ -1,0 +1,57 @@
+//! Answers as the one 64-bit number that a C host gets.
+
+use crate::{Counts, File, Refusal, Trace};
+
+/// The number of an answer; an accepted set without traces and "none" are 0.
+pub trait HostNumber {
+    fn host_number(&self) -> u64;
+}
+
+impl HostNumber for Refusal {
+    fn host_number(&self) -> u64 {
+        let file = match self.file {
+            None => 0,
+            Some(File::R) => 1,
+            Some(File::S) => 2,
+            Some(File::X) => 3,
+        };
+        (u64::from(self.number) << 40)
+            + (file << 32)
+            + u64::from(self.line) * 256
+            + u64::from(self.column)
+    }
+}
+
+impl HostNumber for Counts {
+    fn host_number(&self) -> u64 {
+        self.traces
+    }
+}
+
+impl HostNumber for Trace {
+    fn host_number(&self) -> u64 {
+        u64::from(self.r_line) * 16 + u64::from(self.component)
+    }
+}
+
+/// A channel, or the highest one.
+impl HostNumber for u16 {
+    fn host_number(&self) -> u64 {
+        u64::from(*self)
+    }
+}
+
+impl<T: HostNumber> HostNumber for Option<T> {
+    fn host_number(&self) -> u64 {
+        self.as_ref().map_or(0, T::host_number)
+    }
+}
+
+impl<T: HostNumber> HostNumber for Result<T, Refusal> {
+    fn host_number(&self) -> u64 {
+        match self {
+            Ok(answer) => answer.host_number(),
+            Err(refusal) => refusal.host_number(),
+        }
+    }
+}

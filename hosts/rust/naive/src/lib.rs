@@ -1,0 +1,142 @@
+//! A naive reader of SPS sets: the second opinion on the set check, the two
+//! lookups, the spread table and the showing of a line.
+//!
+//! It is written from the paper alone and shares neither code nor definitions
+//! with the proved checker. It answers every input, of any length and bytes.
+//!
+//! The way of the data: `lines` cuts a file (1 to 3), `fields` reads one field,
+//! `point`, `relation` and `header` read one line (5 and 6), `form` puts a whole
+//! file together (1 to 6), `set` compares the three files (7 to 19) and counts,
+//! `traces` answers questions of an accepted set (20 and 21). `show` and `host`
+//! stand apart.
+
+#![forbid(unsafe_code)]
+
+mod fields;
+mod form;
+mod header;
+mod host;
+mod lines;
+mod point;
+mod relation;
+mod set;
+mod show;
+mod traces;
+
+pub use host::HostNumber;
+pub use lines::Line;
+pub use point::{Marker, Place, Point, PointLine};
+pub use relation::Relation;
+pub use show::show;
+
+/// One of the three files, by its letter.
+#[derive(Clone, Copy, Debug, PartialEq, Eq)]
+pub enum File {
+    R,
+    S,
+    X,
+}
+
+/// A refusal number with its place; 20 and 21 have none.
+#[derive(Clone, Copy, Debug, PartialEq, Eq)]
+pub struct Refusal {
+    pub number: u8,
+    pub file: Option<File>,
+    pub line: u32,
+    pub column: u8,
+}
+
+/// What is wrong within one line: a refusal whose file and line are not known yet.
+#[derive(Clone, Copy, Debug, PartialEq, Eq)]
+pub struct Fault {
+    pub number: u8,
+    pub column: u8,
+}
+
+/// What an accepted set holds.
+#[derive(Clone, Copy, Debug, PartialEq, Eq)]
+pub struct Counts {
+    pub receivers: u64,
+    pub shots: u64,
+    pub relations: u64,
+    pub traces: u64,
+}
+
+/// Where a trace comes from: the line of its receiver in R, and its component.
+#[derive(Clone, Copy, Debug, PartialEq, Eq)]
+pub struct Trace {
+    pub r_line: u16,
+    pub component: u8,
+}
+
+impl Fault {
+    fn at(self, file: File, line: u32) -> Refusal {
+        Refusal { number: self.number, file: Some(file), line, column: self.column }
+    }
+}
+
+/// The refusal of a number at a line and column of a file.
+fn refusal(number: u8, file: File, line: u32, column: u8) -> Refusal {
+    Fault { number, column }.at(file, line)
+}
+
+/// Checks a set and counts what it holds.
+pub fn check(r: &[u8], s: &[u8], x: &[u8]) -> Result<Counts, Refusal> {
+    set::read(r, s, x).map(|set| set.counts)
+}
+
+/// From a trace to its receiver; `None` is "no trace".
+pub fn trace(
+    r: &[u8],
+    s: &[u8],
+    x: &[u8],
+    tape: &[u8],
+    record: u64,
+    channel: u64,
+) -> Result<Option<Trace>, Refusal> {
+    let asked = traces::asked(tape, record)?;
+    let channel = traces::within(channel, 1..=9999)?;
+    Ok(set::read(r, s, x)?.trace(asked, channel))
+}
+
+/// The way back, from a line of R and a component to the channel; `None` is "no trace".
+pub fn channel(
+    r: &[u8],
+    s: &[u8],
+    x: &[u8],
+    tape: &[u8],
+    record: u64,
+    r_line: u64,
+    component: u64,
+) -> Result<Option<u16>, Refusal> {
+    let asked = traces::asked(tape, record)?;
+    let r_line = traces::within(r_line, 1..=9999)?;
+    let component = traces::within(component, 1..=9)?;
+    Ok(set::read(r, s, x)?.channel(asked, r_line, component))
+}
+
+/// Fills the spread table of a record and returns its highest channel; a
+/// refusal writes nothing.
+pub fn spread(
+    r: &[u8],
+    s: &[u8],
+    x: &[u8],
+    tape: &[u8],
+    record: u64,
+    lines: &mut [u16],
+    components: &mut [u8],
+) -> Result<u16, Refusal> {
+    let asked = traces::asked(tape, record)?;
+    set::read(r, s, x)?.spread(asked, lines, components)
+}
+
+/// Reads the 80 columns of a line of R or S to its values: rule 5. In R the
+/// receiver codes are legal, in any other file those of shots.
+pub fn read_point(file: File, line: &Line) -> Result<PointLine, Fault> {
+    point::read(file, line)
+}
+
+/// Reads the 80 columns of a line of X to its values: rules 5 and 6.
+pub fn read_relation(line: &Line) -> Result<Relation, Fault> {
+    relation::read(line)
+}

@@ -1,0 +1,159 @@
+//! The three files as one set: 7 to 19 in their order, and the counts.
+
+use crate::form::Form;
+use crate::{header, point, refusal, relation};
+use crate::{Counts, Fault, File, Place, Point, PointLine, Refusal, Relation};
+use std::collections::{HashMap, HashSet};
+
+/// An accepted set.
+pub struct Set {
+    /// The line of each receiver in R.
+    pub r_lines: HashMap<Place, u32>,
+    /// The relation lines in the order of X.
+    pub relations: Vec<Relation>,
+    pub counts: Counts,
+}
+
+/// Reads and checks a set.
+pub fn read(r: &[u8], s: &[u8], x: &[u8]) -> Result<Set, Refusal> {
+    let r = Form::of(File::R, r, |line| point::read(File::R, line))?;
+    let s = Form::of(File::S, s, |line| point::read(File::S, line))?;
+    let x = Form::of(File::X, x, relation::read)?;
+    header::check(&r.headers, &s.headers, &x.headers)?;
+    let r_lines = receivers(&r)?;
+    let s_lines = shots(&s)?;
+    let mut walk = Walk::new(&r_lines, &s_lines);
+    for (line, relation) in x.numbered() {
+        walk.step(relation).map_err(|fault| fault.at(File::X, line))?;
+    }
+    all_named(&s, &x)?;
+    let counts = Counts {
+        receivers: r_lines.len() as u64,
+        shots: s_lines.len() as u64,
+        relations: x.data.len() as u64,
+        traces: x.data.iter().map(Relation::traces).sum(),
+    };
+    Ok(Set { r_lines, relations: x.data, counts })
+}
+
+/// The lines that are not PM, with their line numbers.
+fn points(form: &Form<PointLine>) -> impl Iterator<Item = (u32, &Point)> {
+    form.numbered().filter_map(|(line, read)| match read {
+        PointLine::Point(point) => Some((line, point)),
+        PointLine::Marker(_) => None,
+    })
+}
+
+/// The line of each receiver; 10 holds them in ascending order.
+fn receivers(r: &Form<PointLine>) -> Result<HashMap<Place, u32>, Refusal> {
+    let mut lines = HashMap::new();
+    let mut before: Option<Place> = None;
+    for (line, point) in points(r) {
+        if before.is_some_and(|before| point.place <= before) {
+            return Err(refusal(10, File::R, line, 2));
+        }
+        before = Some(point.place);
+        lines.insert(point.place, line);
+    }
+    Ok(lines)
+}
+
+/// The line of each shot; line by line 11, then 12.
+fn shots(s: &Form<PointLine>) -> Result<HashMap<Place, u32>, Refusal> {
+    let mut lines = HashMap::new();
+    let mut before = (0, 0);
+    for (line, point) in points(s) {
+        let moment = (point.day, point.time);
+        if moment < before {
+            return Err(refusal(11, File::S, line, 72));
+        }
+        before = moment;
+        if lines.insert(point.place, line).is_some() {
+            return Err(refusal(12, File::S, line, 2));
+        }
+    }
+    Ok(lines)
+}
+
+/// 15: each shot is the source of a relation line.
+fn all_named(s: &Form<PointLine>, x: &Form<Relation>) -> Result<(), Refusal> {
+    let named: HashSet<Place> = x.data.iter().map(|relation| relation.source).collect();
+    match points(s).find(|(_, point)| !named.contains(&point.place)) {
+        Some((line, _)) => Err(refusal(15, File::S, line, 1)),
+        None => Ok(()),
+    }
+}
+
+/// The walk down X, with what it has seen above the next line.
+struct Walk<'a> {
+    r_lines: &'a HashMap<Place, u32>,
+    s_lines: &'a HashMap<Place, u32>,
+    before: Option<&'a Relation>,
+    /// Every tape and record above.
+    records: HashSet<([u8; 6], u16)>,
+    /// The receivers covered above in the record of the line just before. 16 comes
+    /// first, so no other line above is of that record.
+    covered: HashSet<Place>,
+}
+
+impl<'a> Walk<'a> {
+    fn new(r_lines: &'a HashMap<Place, u32>, s_lines: &'a HashMap<Place, u32>) -> Self {
+        Walk { r_lines, s_lines, before: None, records: HashSet::new(), covered: HashSet::new() }
+    }
+
+    fn step(&mut self, relation: &'a Relation) -> Result<(), Fault> {
+        self.source(relation)?;
+        self.record(relation)?;
+        self.receivers(relation)?;
+        self.records.insert(relation.record());
+        self.before = Some(relation);
+        Ok(())
+    }
+
+    /// 13, 14: the shot is there, and not before that of the line just before.
+    fn source(&self, relation: &Relation) -> Result<(), Fault> {
+        let Some(shot) = self.s_lines.get(&relation.source) else {
+            return Err(Fault { number: 13, column: 14 });
+        };
+        let earlier = self.before.and_then(|b| self.s_lines.get(&b.source));
+        if earlier.is_some_and(|earlier| shot < earlier) {
+            return Err(Fault { number: 14, column: 14 });
+        }
+        Ok(())
+    }
+
+    /// 16, 17: the lines of a record stand together, agree, and their channels ascend.
+    fn record(&mut self, relation: &Relation) -> Result<(), Fault> {
+        match self.before.filter(|b| b.record() == relation.record()) {
+            None => {
+                self.covered.clear();
+                if self.records.contains(&relation.record()) {
+                    return Err(Fault { number: 16, column: 2 });
+                }
+            }
+            Some(before) => {
+                let same = before.source == relation.source
+                    && before.record_increment == relation.record_increment
+                    && before.instrument == relation.instrument;
+                if !same {
+                    return Err(Fault { number: 16, column: 2 });
+                }
+                if relation.from_channel <= before.to_channel {
+                    return Err(Fault { number: 17, column: 39 });
+                }
+            }
+        }
+        Ok(())
+    }
+
+    /// 18 of all covered receivers, then 19: each is there, and covered once in a record.
+    fn receivers(&mut self, relation: &Relation) -> Result<(), Fault> {
+        if !relation.covered().all(|r| self.r_lines.contains_key(&r)) {
+            return Err(Fault { number: 18, column: 64 });
+        }
+        if !relation.covered().all(|r| self.covered.insert(r)) {
+            return Err(Fault { number: 19, column: 64 });
+        }
+        Ok(())
+    }
+}

@@ -1,0 +1,193 @@
+//! Any bytes of any length get an answer, and every refusal has a place that
+//! its rule can name.
+
+use naive::{channel, check, show, spread, trace, File, Refusal};
+use small_sets::{set_a, Line, Set};
+use std::collections::BTreeSet;
+
+/// A small xorshift generator.
+struct Random(u64);
+
+impl Random {
+    fn next(&mut self) -> u64 {
+        self.0 ^= self.0 << 13;
+        self.0 ^= self.0 >> 7;
+        self.0 ^= self.0 << 17;
+        self.0
+    }
+
+    fn below(&mut self, bound: usize) -> usize {
+        (self.next() % bound as u64) as usize
+    }
+
+    fn one_of(&mut self, bytes: &[u8]) -> u8 {
+        bytes[self.below(bytes.len())]
+    }
+
+    fn bytes(&mut self, length: usize) -> Vec<u8> {
+        (0..length).map(|_| self.next() as u8).collect()
+    }
+}
+
+const FILES: [small_sets::File; 3] = small_sets::File::ALL;
+
+/// The first columns of the fields of header and point lines, and of header and relation lines.
+const OF_POINTS: [u8; 15] = [2, 4, 18, 26, 27, 29, 33, 37, 41, 43, 47, 56, 66, 72, 75];
+const OF_RELATIONS: [u8; 15] = [2, 4, 8, 12, 13, 14, 30, 38, 39, 43, 47, 48, 64, 72, 80];
+
+/// Whether a rule can name this file and column.
+fn may_name(number: u8, file: File, column: u8) -> bool {
+    use File::{R, S, X};
+    match (number, file) {
+        (1 | 2, _) | (7, R) => column == 0,
+        (3, _) => (1..=82).contains(&column),
+        (4, _) | (15, S) => column == 1,
+        (5, R | S) => OF_POINTS.contains(&column),
+        (5, X) => OF_RELATIONS.contains(&column),
+        (6, X) => [39, 64, 47, 72].contains(&column),
+        (8, R) => column == 33,
+        (9, S | X) => column <= 80,
+        (10, R) | (12, S) | (16, X) => column == 2,
+        (11, S) => column == 72,
+        (13 | 14, X) => column == 14,
+        (17, X) => column == 39,
+        (18 | 19, X) => column == 64,
+        _ => false,
+    }
+}
+
+fn hold(set: &Set, refusal: Refusal) {
+    let Refusal { number, file, line, column } = refusal;
+    let file = file.unwrap_or_else(|| panic!("no file: {refusal:?}"));
+    assert!(may_name(number, file, column), "{refusal:?}");
+    let lines = set.file(FILES[file as usize]).len() / 82;
+    assert!((1..=lines + 1).contains(&(line as usize)), "{refusal:?}");
+}
+
+/// Asks everything of a set, and holds the answers together.
+fn ask(set: &Set) {
+    let Set { r, s, x } = set;
+    let verdict = check(r, s, x);
+    let tape = b"100   ";
+    let (mut lines, mut components) = ([7; 10_000], [7; 10_000]);
+    let highest = spread(r, s, x, tape, 11, &mut lines, &mut components);
+    if let Err(refusal) = verdict {
+        hold(set, refusal);
+        assert_eq!(highest, Err(refusal));
+        assert_eq!(trace(r, s, x, tape, 11, 2), Err(refusal));
+        assert_eq!(channel(r, s, x, tape, 11, 23, 1), Err(refusal));
+        assert!(lines.iter().all(|&line| line == 7) && components.iter().all(|&c| c == 7));
+        return;
+    }
+    let highest = highest.expect("the set is accepted");
+    for asked in [1, 2, 3, 4, 9_999] {
+        let place = asked as usize - 1;
+        let found = trace(r, s, x, tape, 11, asked).expect("the set is accepted");
+        if asked > u64::from(highest) {
+            assert_eq!((found, lines[place], components[place]), (None, 7, 7));
+            continue;
+        }
+        let (line, component) = found.map_or((0, 0), |t| (t.r_line, t.component));
+        assert_eq!((line, component), (lines[place], components[place]));
+        if found.is_some() {
+            let back = channel(r, s, x, tape, 11, line.into(), component.into());
+            assert_eq!(back, Ok(Some(asked as u16)));
+        }
+    }
+}
+
+#[test]
+fn random_bytes() {
+    let mut random = Random(0x5eed_0001);
+    for turn in 0..2_000 {
+        let mut length = || match turn % 3 {
+            0 => random.below(200),
+            1 => 82 * random.below(4),
+            _ => random.below(2_000),
+        };
+        let lengths = [length(), length(), length()];
+        let [r, s, x] = lengths.map(|length| random.bytes(length));
+        let set = Set { r, s, x };
+        hold(&set, check(&set.r, &set.s, &set.x).expect_err("no header"));
+        let letter = random.one_of(b"RSXH\0");
+        let shown = show(&set.r, &set.s, letter, random.below(30));
+        assert!(shown.is_empty() || shown.len() == 80);
+    }
+}
+
+/// Set A cut at every length: 1 unless whole lines are left.
+#[test]
+fn every_length() {
+    let a = set_a();
+    for (file, named) in FILES.into_iter().zip([File::R, File::S, File::X]) {
+        for length in 0..a.file(file).len() {
+            let set = a.clone().cut(file, length);
+            let verdict = check(&set.r, &set.s, &set.x);
+            let refusal = verdict.expect_err("set A needs every line");
+            hold(&set, refusal);
+            if length % 82 != 0 {
+                let line = length as u32 / 82 + 1;
+                let expected = Refusal { number: 1, file: Some(named), line, column: 0 };
+                assert_eq!(refusal, expected);
+            }
+        }
+    }
+}
+
+/// Set A with each byte replaced: 3 at that place where the byte is out of range.
+#[test]
+fn every_byte() {
+    let a = set_a();
+    for (file, named) in FILES.into_iter().zip([File::R, File::S, File::X]) {
+        for position in 0..a.file(file).len() {
+            let (line, column) = (position / 82 + 1, position % 82 + 1);
+            let damaged = |byte| a.clone().byte(file, line, column, byte);
+            let bad = damaged(0x80);
+            let (line, column) = (line as u32, column as u8);
+            let expected = Refusal { number: 3, file: Some(named), line, column };
+            assert_eq!(check(&bad.r, &bad.s, &bad.x), Err(expected));
+            for byte in *b" 02HM-." {
+                let set = damaged(byte);
+                if let Err(refusal) = check(&set.r, &set.s, &set.x) {
+                    hold(&set, refusal);
+                }
+            }
+        }
+    }
+}
+
+/// One byte of a data line replaced by one that may stand there, or a data line
+/// repeated at the end.
+fn damage(set: Set, random: &mut Random) -> Set {
+    let file = FILES[random.below(3)];
+    let line = 22 + random.below(set.lines(file) - 21);
+    if random.below(4) == 0 {
+        let start = (line - 1) * 82;
+        let columns = set.file(file)[start..start + 80].try_into();
+        return set.add(file, Line(columns.expect("80 columns")));
+    }
+    let byte = random.one_of(b"  0123459.-GVPMKL");
+    set.byte(file, line, 1 + random.below(80), byte)
+}
+
+/// Set A damaged one to four times; accepted sets and all these refusals turn up.
+#[test]
+fn random_damage() {
+    let mut random = Random(0x5eed_0002);
+    let a = set_a();
+    let mut accepted = 0;
+    let mut numbers = BTreeSet::new();
+    for _ in 0..4_000 {
+        let times = 1 + random.below(4);
+        let set = (0..times).fold(a.clone(), |set, _| damage(set, &mut random));
+        ask(&set);
+        match check(&set.r, &set.s, &set.x) {
+            Ok(_) => accepted += 1,
+            Err(refusal) => drop(numbers.insert(refusal.number)),
+        }
+    }
+    assert!(accepted > 100, "{accepted} accepted");
+    for number in [4, 5, 6, 10, 11, 12, 13, 15, 16, 17, 18] {
+        assert!(numbers.contains(&number), "no {number} in {numbers:?}");
+    }
+}

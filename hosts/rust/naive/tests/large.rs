@@ -1,0 +1,34 @@
+//! A set near the limits: 9,999 lines a file and some two million traces.
+
+use naive::{channel, check, spread, trace, Counts, Trace};
+use small_sets::{headers_only, receiver, relation, shot, File, Set};
+
+/// 9,978 receivers, shots and records; record n covers 200 receivers from its own on.
+fn large() -> Set {
+    let numbers = 0..9_978;
+    let lines = |n: u32| {
+        let from = n.min(9_778);
+        let line = relation().source(n).record(n).channels(1, 200);
+        line.receivers(from, from + 199)
+    };
+    headers_only()
+        .add_all(File::R, numbers.clone().map(receiver))
+        .add_all(File::S, numbers.clone().map(shot))
+        .add_all(File::X, numbers.map(lines))
+}
+
+#[test]
+fn two_million_traces() {
+    let Set { r, s, x } = large();
+    let counts = Counts { receivers: 9_978, shots: 9_978, relations: 9_978, traces: 1_995_600 };
+    assert_eq!(check(&r, &s, &x), Ok(counts));
+    let tape = b"100   ";
+    let found = Some(Trace { r_line: 9_999, component: 1 });
+    assert_eq!(trace(&r, &s, &x, tape, 9_977, 200), Ok(found));
+    assert_eq!(channel(&r, &s, &x, tape, 9_977, 9_999, 1), Ok(Some(200)));
+    let (mut lines, mut components) = ([0; 200], [0; 200]);
+    let highest = spread(&r, &s, &x, tape, 5_000, &mut lines, &mut components);
+    assert_eq!(highest, Ok(200));
+    assert!(lines.into_iter().eq(5_022..=5_221));
+    assert_eq!(components, [1; 200]);
+}

@@ -1,0 +1,19 @@
+//! Set A of the paper, edits of it, and one table of cases.
+//!
+//! A case is a set, a question and the answer that the paper gives, written by
+//! hand. The table depends on no reader, so that every entry can be held
+//! against it: library call, C call, program.
+
+#![forbid(unsafe_code)]
+
+mod case;
+mod examples;
+mod line;
+mod set;
+mod table;
+
+pub use case::{Answer, Case, Question, STAYS};
+pub use examples::{examples, Example};
+pub use line::{header, marker, receiver, relation, shot, Line};
+pub use set::{headers_only, set_a, File, Set};
+pub use table::{table, Section, SECTIONS};

@@ -1,0 +1,131 @@
+//! Set A, and edits that give another set.
+
+use crate::line::{header, receiver, relation, shot, Line};
+use File::{R, S, X};
+
+/// One of the three files; its number is the one that a C host gets.
+#[derive(Clone, Copy, Debug, PartialEq, Eq)]
+pub enum File {
+    R = 1,
+    S = 2,
+    X = 3,
+}
+
+impl File {
+    pub const ALL: [File; 3] = [R, S, X];
+
+    pub fn letter(self) -> &'static str {
+        match self {
+            R => "R",
+            S => "S",
+            X => "X",
+        }
+    }
+}
+
+/// The bytes of the three files.
+#[derive(Clone, Debug, Default, PartialEq, Eq)]
+pub struct Set {
+    pub r: Vec<u8>,
+    pub s: Vec<u8>,
+    pub x: Vec<u8>,
+}
+
+/// The header blocks of set A: H00 to H20, H18 holding `UTM;`.
+pub fn headers_only() -> Set {
+    let block: Vec<Line> = (0..=20).map(header).collect();
+    Set::default()
+        .each(|set, file| set.add_all(file, block.iter().copied()))
+        .each(|set, file| set.put(file, 19, 33, "UTM;"))
+}
+
+/// Set A of the paper.
+pub fn set_a() -> Set {
+    headers_only().add_all(R, [101, 102, 103].map(receiver)).add(S, shot(501)).add(X, relation())
+}
+
+/// Lines and columns count from 1. An edit outside the file is a fault of the table.
+impl Set {
+    pub fn file(&self, file: File) -> &[u8] {
+        match file {
+            R => &self.r,
+            S => &self.s,
+            X => &self.x,
+        }
+    }
+
+    pub fn file_mut(&mut self, file: File) -> &mut Vec<u8> {
+        match file {
+            R => &mut self.r,
+            S => &mut self.s,
+            X => &mut self.x,
+        }
+    }
+
+    /// The number of whole lines of a file.
+    pub fn lines(&self, file: File) -> usize {
+        self.file(file).len() / 82
+    }
+
+    /// A line changed as a whole.
+    pub fn edit(mut self, file: File, line: usize, change: impl FnOnce(Line) -> Line) -> Set {
+        let start = (line - 1) * 82;
+        let columns = &mut self.file_mut(file)[start..start + 80];
+        let before = Line(std::array::from_fn(|at| columns[at]));
+        columns.copy_from_slice(&change(before).0);
+        self
+    }
+
+    /// Text put over the columns from `column` on.
+    pub fn put(self, file: File, line: usize, column: usize, text: &str) -> Set {
+        self.edit(file, line, |columns| columns.at(column, text))
+    }
+
+    /// One byte at a column of 1 to 82.
+    pub fn byte(mut self, file: File, line: usize, column: usize, byte: u8) -> Set {
+        self.file_mut(file)[(line - 1) * 82 + column - 1] = byte;
+        self
+    }
+
+    /// A line put in as number `line`; those from there on move down.
+    pub fn insert(mut self, file: File, line: usize, text: Line) -> Set {
+        let start = (line - 1) * 82;
+        let bytes = text.0.into_iter().chain(*b"\r\n");
+        self.file_mut(file).splice(start..start, bytes);
+        self
+    }
+
+    /// A line added at the end.
+    pub fn add(self, file: File, text: Line) -> Set {
+        let end = self.lines(file) + 1;
+        self.insert(file, end, text)
+    }
+
+    pub fn add_all(self, file: File, texts: impl IntoIterator<Item = Line>) -> Set {
+        texts.into_iter().fold(self, |set, text| set.add(file, text))
+    }
+
+    /// A line taken out; those below move up.
+    pub fn remove(mut self, file: File, line: usize) -> Set {
+        self.file_mut(file).drain((line - 1) * 82..line * 82);
+        self
+    }
+
+    /// A file cut to its first bytes.
+    pub fn cut(mut self, file: File, bytes: usize) -> Set {
+        self.file_mut(file).truncate(bytes);
+        self
+    }
+
+    /// Blanks after the end of a file.
+    pub fn over(mut self, file: File, bytes: usize) -> Set {
+        let end = self.file(file).len() + bytes;
+        self.file_mut(file).resize(end, b' ');
+        self
+    }
+
+    /// The same edit in each of the three files.
+    pub fn each(self, change: impl Fn(Set, File) -> Set) -> Set {
+        File::ALL.into_iter().fold(self, change)
+    }
+}

@@ -1,0 +1,42 @@
+//! The table in sections, a file each.
+
+mod answers;
+mod covers;
+mod files;
+mod headers;
+mod markers;
+mod order;
+mod pairs_of_form;
+mod pairs_of_set;
+pub mod paper;
+mod points;
+mod questions;
+mod records;
+mod relations;
+mod write;
+
+use crate::Case;
+
+/// A name, and what gives the cases.
+pub type Section = (&'static str, fn() -> Vec<Case>);
+
+pub const SECTIONS: [Section; 13] = [
+    ("paper", paper::cases),
+    ("files", files::cases),
+    ("headers", headers::cases),
+    ("points", points::cases),
+    ("markers", markers::cases),
+    ("relations", relations::cases),
+    ("order", order::cases),
+    ("records", records::cases),
+    ("covers", covers::cases),
+    ("questions", questions::cases),
+    ("pairs_of_form", pairs_of_form::cases),
+    ("pairs_of_set", pairs_of_set::cases),
+    ("answers", answers::cases),
+];
+
+/// All sections, one after another.
+pub fn table() -> Vec<Case> {
+    SECTIONS.iter().flat_map(|(_, cases)| cases()).collect()
+}

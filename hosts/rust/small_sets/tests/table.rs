@@ -1,0 +1,95 @@
+//! The table itself: names, and which refusals it has.
+
+use small_sets::{set_a, table, Answer, File, Question};
+use std::collections::HashSet;
+
+#[test]
+fn names_differ() {
+    let mut names = HashSet::new();
+    for case in table() {
+        assert!(names.insert(case.name.clone()), "twice: {}", case.name);
+    }
+}
+
+#[test]
+fn every_refusal_is_asked_for() {
+    let mut numbers: Vec<u8> = table()
+        .iter()
+        .filter_map(|case| match case.expected {
+            Answer::Refused { number, .. } => Some(number),
+            _ => None,
+        })
+        .collect();
+    numbers.sort_unstable();
+    numbers.dedup();
+    assert_eq!(numbers, (1..=21).collect::<Vec<u8>>());
+}
+
+/// The program has a line for every case of the set check.
+#[test]
+fn checks_have_verdicts() {
+    for case in table() {
+        if case.question == Question::Check {
+            assert!(case.expected.verdict().is_some(), "{}", case.name);
+        }
+    }
+}
+
+/// Set A field by field, each with all its columns.
+#[test]
+fn set_a_is_as_described() {
+    let set = set_a();
+    let line = |file, number: usize| {
+        let bytes = &set.file(file)[(number - 1) * 82..number * 82];
+        String::from_utf8_lossy(bytes).into_owned()
+    };
+    assert_eq!([24, 22, 22], File::ALL.map(|file| set.lines(file)));
+    for (number, point) in [(22, "     101"), (23, "     102"), (24, "     103")] {
+        let start = ["R", "L1              ", point, "1", "G1"].concat();
+        assert_eq!(line(File::R, number), start + &REST.concat());
+    }
+    let start = ["S", "L1              ", "     501", "1", "V1"].concat();
+    assert_eq!(line(File::S, 22), start + &REST.concat());
+    assert_eq!(line(File::X, 22), RELATION.concat());
+    for file in File::ALL {
+        for number in 0..=20 {
+            let text = if number == 18 { "UTM;" } else { "" };
+            let expected = format!("H{number:02}{:29}{text:48}\r\n", "");
+            assert_eq!(line(file, number + 1), expected);
+        }
+    }
+}
+
+/// Columns 29 to 82 of each point line.
+const REST: [&str; 11] = [
+    "    ",
+    " 0.0",
+    "   0",
+    "  ",
+    "    ",
+    "      0.0",
+    "       0.0",
+    "   0.0",
+    "113",
+    "071245",
+    "\r\n",
+];
+
+const RELATION: [&str; 16] = [
+    "X",
+    "100   ",
+    "  11",
+    "1",
+    "1",
+    "L1              ",
+    "     501",
+    "1",
+    "   1",
+    "   3",
+    "1",
+    "L1              ",
+    "     101",
+    "     103",
+    "1",
+    "\r\n",
+];
