@@ -22,6 +22,7 @@ use Rattle.rules.specs.Points.{numberOf}
 use Rattle.rules.specs.Relations.{reach, reachAt}
 use Rattle.rules.specs.Rows.{relationRows}
 use Rattle.rules.proofs.Tests.{says, yes-no, pick-is}
+use Rattle.rules.proofs.Columns.{cols-length, cols-at}
 use Rattle.rules.proofs.Fields.{whole-size}
 use Rattle.rules.proofs.Form.{Data}
 use Rattle.rules.proofs.Meets.{Meets}
@@ -64,18 +65,21 @@ module _ (L : Layout) (f : List ℕ) where
   unfolding disc col
   row-at k c h = rw (add-sub-cancel, getD-take, getD-drop)
 
-  module _ (k : ℕ) (h : k < length f / 82) where
-    room : 82 * k + 82 ≤ length f
-    room = omega arith
+  -- a line of the file stands in it whole
+  pub room : (k : ℕ) → k < disc L f .count → 82 * k + 82 ≤ length f
+  unfolding disc
+  room k h = omega arith
+
+  module _ (k : ℕ) (h : k < disc L f .count) where
 
     pub row-length : length (disc L f .row k) ≡ 80
     unfolding disc
-    row-length = let r = room in simp (length-take, length-drop) (omega arith)
+    row-length = let r = room k h in simp (length-take, length-drop) (omega arith)
 
     pub clean-is : (disc L f .stray k ≡ 0) ↔ ((c : ℕ) → c < 82 → Proper (c + 1) (getD f (82 * k + c) 0))
     unfolding disc
     clean-is =
-        let r = room in
+        let r = room k h in
         let n : length (take 82 (drop (82 * k) f)) ≡ 82 = simp (length-take, length-drop) (omega arith) in
         let b = stray-is 1 (take 82 (drop (82 * k) f)) (lit≤ tt) in (
           λ e c l.
@@ -89,22 +93,12 @@ module _ (L : Layout) (f : List ℕ) where
               (subst (λ (m : ℕ). Proper m (getD f (82 * k + c) 0)) (let z : c + 1 ≡ 1 + c = omega arith in z) (g c l'))),
         )
 
--- columns of a line
-pub cols-length : (l : List ℕ) (a b : ℕ) → 1 ≤ a → b ≤ length l → length (cols l a b) ≡ b + 1 - a
-unfolding cols
-cols-length l a b h g = simp (length-take, length-drop) (omega arith)
-
-pub cols-at : (l : List ℕ) (a b i : ℕ) → 1 ≤ a → i < b + 1 - a → getD (cols l a b) i 0 ≡ col l (a + i)
-unfolding cols col
-cols-at l a b i h g = rw (getD-take, getD-drop) (ap (λ (n : ℕ). getD l n 0) (let z : a - 1 + i ≡ a + i - 1 = omega arith in z))
-
 pub askable : (r s : Sheet) (x : List ℕ) → Meets r s (file x) → Askable (file x)
 unfolding disc sps93 reachAt reach numberOf at relationRows
 askable r s x ok k h z =
     let l = file x .row k in
-    let n : length l ≡ 80 = row-length sps93 x k h in
     let w = fields r s (file x) ok k h z in
-    let m = cols-length l 2 7 (lit≤ tt) (omega arith) in
+    let m = cols-length l 2 (lit≤ tt) 7 in
     let v = w .1 .0 (λ e. e .1) in
     let c = clean-is sps93 x k h .0 (ok .formX .rule3 k h) in (
       m,
@@ -112,7 +106,7 @@ askable r s x ok k h z =
         (λ i g.
             let g' : i < 6 = omega arith in
             let e : getD (cols l 2 7) i 0 ≡ getD x (82 * k + (1 + i)) 0 =
-            cols-at l 2 7 i (lit≤ tt) g' ∙ ap (col l) (let z : 2 + i ≡ 1 + i + 1 = omega arith in z) ∙ row-at sps93 x k (1 + i) (omega arith) in
+            cols-at l 2 (lit≤ tt) 7 i g' ∙ ap (col l) (let z : 2 + i ≡ 1 + i + 1 = omega arith in z) ∙ row-at sps93 x k (1 + i) (omega arith) in
             rw e (c (1 + i) (omega arith) .0 (omega arith))),
         (w .0 (λ e. e .1), rw (whole-size _ (v .0) (v .1)) (v .3)),
       ),

@@ -1,7 +1,10 @@
 pub mod Tests
 pub mod Least
 pub mod Breach
+pub mod Steps
+pub mod Columns
 pub mod Numbers
+pub mod Sizes
 pub mod Fields
 pub mod Form
 pub mod Headers

@@ -1,0 +1,5 @@
+pub mod Walks
+pub mod Justified
+pub mod Signs
+pub mod Codes
+pub mod Widths

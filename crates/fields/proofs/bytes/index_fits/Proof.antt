@@ -1,0 +1,18 @@
+-- `fields::bytes::index_fits` meets its contract. Assumes nothing.
+use Rattle.rules.specs.Kinds.{digit1}
+use borrow.Author.Tests.{eq-eqb, ne-eqb}
+use borrow.Author.Needs.{needs}
+use Rattle.fields.proofs.bytes.index_fits.Statement.{statement}
+use Rattle.fields.proofs.bytes.index_fits.Tie as tie
+
+returns : tie.Need-returns
+returns c = rw (eq-eqb _ _ (c .if1 .taken))
+
+digit1-requires : tie.Need-digit1-requires
+digit1-requires c κs = search needs
+
+returns-2 : tie.Need-returns-2
+returns-2 c = rw (ne-eqb _ _ (c .before .if1 .left)) (c .digit1 .ensures)
+
+pub index-fits-spec : {M : Type 1} → statement M
+index-fits-spec = tie.close (tie.spec returns digit1-requires returns-2)

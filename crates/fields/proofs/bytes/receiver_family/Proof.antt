@@ -1,0 +1,24 @@
+-- `fields::bytes::receiver_family` meets its contract. Assumes nothing.
+use Rattle.rules.specs.Text.{oneOf}
+use borrow.Author.Tests.{eq-eqb, ne-eqb}
+use Rattle.fields.proofs.bytes.receiver_family.Statement.{statement}
+use Rattle.fields.proofs.bytes.receiver_family.Tie as tie
+
+returns : tie.Need-returns
+unfolding oneOf
+returns c = rw (eq-eqb _ _ (c .if1 .taken))
+
+returns-2 : tie.Need-returns-2
+unfolding oneOf
+returns-2 c = rw (ne-eqb _ _ (c .before .if1 .left), eq-eqb _ _ (c .if2 .taken))
+
+returns-3 : tie.Need-returns-3
+unfolding oneOf
+returns-3 c = rw (ne-eqb _ _ (c .before .before .if1 .left), ne-eqb _ _ (c .before .if2 .left), eq-eqb _ _ (c .if3 .taken))
+
+returns-4 : tie.Need-returns-4
+unfolding oneOf
+returns-4 c = rw (ne-eqb _ _ (c .before .before .if1 .left), ne-eqb _ _ (c .before .if2 .left), ne-eqb _ _ (c .if3 .left))
+
+pub receiver-family-spec : {M : Type 1} → statement M
+receiver-family-spec = tie.close (tie.spec returns returns-2 returns-3 returns-4)

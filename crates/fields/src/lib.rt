@@ -1,0 +1,52 @@
+// Fields: what columns a to b of a line hold, each read once over the columns and the width, and the rules of fields.
+// Columns count from 1 as in the paper. A number is its sign and its size; the signed value is made once, where it is kept.
+ghost use mathlib.Core.Path.{_≡_};
+ghost use Rattle.rules.specs.Text.{cols};
+ghost use Rattle.rules.specs.Kinds.{fits as fitsKind};
+ghost use Rattle.fields.specs.Paper.{kind, Sized};
+
+pub mod bytes;
+pub mod numbers;
+pub mod ranges;
+
+// What a field holds: malformed, or a sign and a size.
+pub enum Number {
+    Malformed,
+    Plus(u64),
+    Minus(u64),
+}
+
+// The rule of a field, as the paper's tables give it beside the columns.
+pub enum Kind {
+    StartsNonBlank,
+    DigitsOnly,
+    Coordinate,
+    Index,
+    WaterDepth,
+    Time,
+    WholeNumber(u64, u64),
+    SignedNumber(u64, u64),
+    SignedDecimal(u64, u64),
+    DecimalNumber(u64),
+    Code(u8),
+}
+
+// Whether columns a to b obey the rule k.
+pub fn fits(k: Kind, l: &[u8; 80], a: usize, b: usize) -> bool
+    requires { ⌜ Sized k a b ⌝ }
+    ensures value { λ t. ⌜ t ≡ fitsKind (kind k) (cols (now (l .entry)) a b) ⌝ }
+{
+    match k {
+        Kind::StartsNonBlank => l[a - 1] != 32,
+        Kind::DigitsOnly => bytes::all_digits(l, a, b),
+        Kind::Coordinate => ranges::formed(numbers::signed_decimal(l, a, b)),
+        Kind::Index => bytes::index_fits(l[a - 1]),
+        Kind::WaterDepth => ranges::formed(numbers::water(l, a, b)),
+        Kind::Time => bytes::time(l, a),
+        Kind::WholeNumber(m, n) => ranges::between(m, n, numbers::whole(l, a, b)),
+        Kind::SignedNumber(m, n) => ranges::within(m, n, numbers::signed(l, a, b)),
+        Kind::SignedDecimal(m, n) => ranges::within(m, n, numbers::signed_decimal(l, a, b)),
+        Kind::DecimalNumber(n) => ranges::between(0, n, numbers::decimal(l, a, b)),
+        Kind::Code(i) => bytes::code(l, a, i),
+    }
+}

@@ -1,0 +1,17 @@
+use Rattle.rules.specs.Disc.{disc}
+use Prim.Native.Nat.{ℕ, _+_, _-_, _*_, _≤_, _<_}
+use mathlib.Core.Path.{_≡_, refl, ap, sym, _∙_}
+use native.Mathlib.Omega.{arith}
+use borrow.Author.Needs.{needs}
+use lib.ListN.{length, take, drop, getD}
+use Rattle.lines.proofs.line_count.Statement.{statement}
+use Rattle.lines.proofs.line_count.Tie as tie
+use Rattle.lines.proofs.line_count.Reads as reads
+use Rattle.lines.proofs.line_count.Lts as lts
+
+returns : tie.Need-returns
+unfolding disc
+returns c = refl
+
+pub line-count-spec : {M : Type 1} → statement M
+line-count-spec = tie.close (tie.spec returns)

@@ -1,0 +1,71 @@
+use Rattle.rules.proofs.Disc.{room}
+use Rattle.rules.specs.Disc.{disc}
+use Rattle.rules.specs.Layout.{sps93}
+use Rattle.lines.proofs.Laws.{Copied, copied-more, copied-all}
+use Prim.Native.Nat.{ℕ, _+_, _-_, _*_, _≤_, _<_}
+use mathlib.Core.Path.{_≡_, refl, ap, sym, _∙_}
+use native.Mathlib.Omega.{arith}
+use borrow.Author.Needs.{needs}
+use lib.ListN.{length, take, drop, getD, length-set}
+use Rattle.lines.proofs.line_of.Statement.{statement}
+use Rattle.lines.proofs.line_of.Tie as tie
+use Rattle.lines.proofs.line_of.Reads as reads
+use Rattle.lines.proofs.line_of.Lts as lts
+
+abbrev Inv-loop : tie.InvT-loop
+Inv-loop f k l₀ at c₀ l c = (c ≤ 80) × Copied f l (82 * k) c
+
+abbrev μ-loop : tie.MeasureT-loop
+μ-loop f k l₀ at c₀ l c = 80 - c
+
+mul-at : tie.Need-mul-at Inv-loop μ-loop
+mul-at c = omega (arith, room sps93 _ _ (c .pre))
+
+loop-holds : tie.Need-loop-holds Inv-loop μ-loop
+loop-holds c = (omega arith, (refl, λ i h. absurd (omega arith)))
+
+add-l : tie.Need-add-l Inv-loop μ-loop
+add-l c = omega (arith, room sps93 _ _ (c .before .before .pre))
+
+shared-slice-read-l : tie.Need-shared-slice-read-l Inv-loop μ-loop
+shared-slice-read-l c = omega (arith, room sps93 _ _ (c .before .before .before .pre))
+
+array-write-l : tie.Need-array-write-l Inv-loop μ-loop
+array-write-l c = search needs
+
+add-c : tie.Need-add-c Inv-loop μ-loop
+add-c c = search needs
+
+loop-less : tie.Need-loop-less Inv-loop μ-loop
+loop-less c = search needs
+
+loop-again : tie.Need-loop-again Inv-loop μ-loop
+loop-again c =
+    let at = c .before .before .loop in
+    let a = c .before .before .before .args in
+    (omega arith,
+    (length-set (at .l) (at .c) _ ∙ at .inv .1 .0, copied-more (a .f .now) (at .l) (82 * a .k) (at .c) (omega arith) (at .inv .1)))
+
+returns : tie.Need-returns Inv-loop μ-loop
+unfolding disc
+returns c =
+    let at = c .before .loop in
+    let a = c .before .before .args in
+    let e : at .c ≡ 80 = omega arith in
+    copied-all (a .f .now) (at .l) (82 * a .k) (omega (arith, room sps93 (a .f .now) (a .k) (c .before .before .pre))) (rw e at (at .inv .1))
+
+pub line-of-spec : {M : Type 1} → statement M
+line-of-spec =
+    tie.close
+    (tie.spec
+    Inv-loop
+    μ-loop
+    mul-at
+    loop-holds
+    add-l
+    shared-slice-read-l
+    array-write-l
+    add-c
+    loop-less
+    loop-again
+    returns)
