@@ -47,8 +47,8 @@ module _ (l : List ℕ) (a : ℕ) (o : 1 ≤ a) where
   time-seconds d e = (rw (d, e)) ∙ whole
 
   -- the two columns of a code
-  two : cols l a (a + 1) ≡ getD l (a - 1) 0 ∷ getD l a 0 ∷ []
-  two =
+  pub two-columns : cols l a (a + 1) ≡ getD l (a - 1) 0 ∷ getD l a 0 ∷ []
+  two-columns =
       cols-step l a o (a + 1) (omega arith)
       ∙ ap (λ (r : List ℕ). getD l (a - 1) 0 ∷ r)
         (cols-step l (a + 1) (omega arith) (a + 1) (omega arith)
@@ -60,7 +60,7 @@ module _ (l : List ℕ) (a : ℕ) (o : 1 ≤ a) where
   module _ (i : ℕ) where
     all : (Two 80 77 || (Two 75 76 || (family i (getD l (a - 1) 0) && digit1 (getD l a 0)))) ≡ isCode i (cols l a (a + 1))
     unfolding isCode bytes col
-    all = rw two
+    all = rw two-columns
 
     pub code-marker : Two 80 77 ≡ true → true ≡ isCode i (cols l a (a + 1))
     code-marker e = (rw e) ∙ all

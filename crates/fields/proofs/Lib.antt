@@ -3,3 +3,4 @@ pub mod Justified
 pub mod Signs
 pub mod Codes
 pub mod Widths
+pub mod Packed

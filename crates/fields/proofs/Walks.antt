@@ -7,17 +7,27 @@ use mathlib.Core.Path.{_≡_, refl, sym, ap, _∙_}
 use mathlib.Core.Bool.{Bool, true, false}
 use mathlib.Core.List.{List, [], _∷_}
 use lib.ListN.{getD}
-use borrow.Author.Tests.{le-leb, lt-leb, lt-ltb, le-ltb, eq-eqb, ne-eqb}
+use borrow.Author.Tests.{le-leb, lt-leb, eq-eqb, ne-eqb}
 use Rattle.rules.specs.Places.{pick}
-use Rattle.rules.specs.Text.{cols, same, less, blank}
+use Rattle.rules.specs.Text.{cols, blank}
 use Rattle.rules.specs.Numbers.{digit, Number, malformed, plus, digitsAfter, digits}
 use Rattle.rules.proofs.Columns.{cols-end, cols-step}
 use Rattle.rules.specs.Kinds.{allDigits}
 use Rattle.fields.specs.Ink.{inkFrom}
+use Rattle.fields.specs.Packed.{packedAfter}
 
 -- the number that the digits of columns a to c - 1 make, and one digit more
-pub none : (a : ℕ) → 0 < 10 ^ (a - a)
-none a = one-le-pow (a - a) 10 (omega arith)
+pub none : (b a : ℕ) → 0 < b → 0 < b ^ (a - a)
+none b a h = one-le-pow (a - a) b h
+
+pub byte-more : {v d : ℕ} (a c : ℕ) → a ≤ c → v < 256 ^ (c - a) → d < 256 → 256 * v + d < 256 ^ (c + 1 - a)
+byte-more a c h hv hd =
+    let e : c + 1 - a ≡ suc (c - a) = omega arith in
+    let p = pow-suc 256 (c - a) in
+    rw e (omega arith)
+
+pub eight : {v : ℕ} (i : ℕ) → v < 256 ^ i → i ≤ 7 → v < 256 ^ 7
+eight i hv hi = le-trans hv (pow-le-pow-right (omega arith) hi)
 
 pub grow : {v d : ℕ} (a c : ℕ) → a ≤ c → v < 10 ^ (c - a) → d ≤ 9 → 10 * v + d < 10 ^ (c + 1 - a)
 grow a c h hv hd =
@@ -103,47 +113,12 @@ module _ (l : List ℕ) (c b : ℕ) (o : 1 ≤ c) (X : Bool) where
       unfolding allDigits digit
       all-step p q = (rw (cols-step l c o b h, le-leb _ _ p, le-leb _ _ q)) ∙ e
 
--- two names, column by column: c goes to e as d goes to f
-module _ (l m : List ℕ) (c e d f : ℕ) (X : Bool) (o : 1 ≤ c) (p : 1 ≤ d) (w : e + d ≡ f + c) where
-  module _ (q : same (cols l c e) (cols m d f) ≡ X) where
-    pub same-end : e < c → true ≡ X
-    unfolding same
-    same-end h = (rw (cols-end l c o e h, cols-end m d p f (omega arith))) ∙ q
+-- columns as one number to the base 256
+module _ (l : List ℕ) (c b : ℕ) (o : 1 ≤ c) (v X : ℕ) (e : packedAfter v (cols l c b) ≡ X) where
+  pub packed-end : b < c → v ≡ X
+  unfolding packedAfter
+  packed-end h = (rw (cols-end l c o b h)) ∙ e
 
-    module _ (h : c ≤ e) where
-      k : d ≤ f
-      k = omega arith
-
-      pub same-stop : (getD l (c - 1) 0 ≡ getD m (d - 1) 0 → ⊥) → false ≡ X
-      unfolding same
-      same-stop n = (rw (cols-step l c o e h, cols-step m d p f k, ne-eqb _ _ n)) ∙ q
-
-      pub same-step : getD l (c - 1) 0 ≡ getD m (d - 1) 0 → same (cols l (c + 1) e) (cols m (d + 1) f) ≡ X
-      unfolding same
-      same-step n = (rw (cols-step l c o e h, cols-step m d p f k, eq-eqb _ _ n)) ∙ q
-
-  module _ (q : less (cols l c e) (cols m d f) ≡ X) where
-    pub less-end : e < c → false ≡ X
-    unfolding less
-    less-end h = (rw (cols-end l c o e h, cols-end m d p f (omega arith))) ∙ q
-
-    module _ (h : c ≤ e) where
-      k' : d ≤ f
-      k' = omega arith
-
-      pub less-yes : getD l (c - 1) 0 < getD m (d - 1) 0 → true ≡ X
-      unfolding less
-      less-yes n = (rw (cols-step l c o e h, cols-step m d p f k', lt-ltb _ _ n)) ∙ q
-
-      module _ (n : getD m (d - 1) 0 ≤ getD l (c - 1) 0) where
-        pub less-no : getD m (d - 1) 0 < getD l (c - 1) 0 → false ≡ X
-        unfolding less
-        less-no y =
-            let z : getD l (c - 1) 0 ≡ getD m (d - 1) 0 → ⊥ = λ z. omega arith in
-            (rw (cols-step l c o e h, cols-step m d p f k', le-ltb _ _ n, ne-eqb _ _ z)) ∙ q
-
-        pub less-step : getD l (c - 1) 0 ≤ getD m (d - 1) 0 → less (cols l (c + 1) e) (cols m (d + 1) f) ≡ X
-        unfolding less
-        less-step y =
-            let z : getD l (c - 1) 0 ≡ getD m (d - 1) 0 = omega arith in
-            (rw (cols-step l c o e h, cols-step m d p f k', le-ltb _ _ n, eq-eqb _ _ z)) ∙ q
+  pub packed-step : (d : ℕ) → c ≤ b → d ≡ getD l (c - 1) 0 → packedAfter (256 * v + d) (cols l (c + 1) b) ≡ X
+  unfolding packedAfter
+  packed-step d h r = rw r ((rw (cols-step l c o b h)) ∙ e)

@@ -1,10 +1,10 @@
-// Columns as bytes: blanks, digits, indices, times, codes, and names, which compare over all columns.
+// Columns as bytes: blanks, digits, indices, times and codes.
 ghost use mathlib.Core.Path.{_≡_};
 ghost use mathlib.Core.Bool.{_||_};
 ghost use mathlib.Core.List.{List, [], _∷_};
 ghost use Prim.Native.Nat.{ℕ, _+_, _≤_, _<_};
 ghost use lib.Dec.{eqb};
-ghost use Rattle.rules.specs.Text.{cols, blank as isBlank, same as isSame, less as isLess, oneOf};
+ghost use Rattle.rules.specs.Text.{cols, blank as isBlank, same as isSame, oneOf};
 ghost use Rattle.rules.specs.Kinds.{allDigits, digit1 as isDigit1, indexOf, family as isFamily, isCode, isTime};
 use crate::numbers;
 use crate::ranges;
@@ -41,43 +41,6 @@ pub fn all_digits(l: &[u8; 80], a: usize, b: usize) -> bool
         c += 1;
     }
     true
-}
-
-// Columns a to e of one line are columns b to f of another.
-pub fn same(l: &[u8; 80], a: usize, e: usize, m: &[u8; 80], b: usize, f: usize) -> bool
-    requires { ⌜ ((1 ≤ a) × (e ≤ 80)) × (((1 ≤ b) × (f ≤ 80)) × (e + b ≡ f + a)) ⌝ }
-    ensures value { λ t. ⌜ t ≡ isSame (cols (now (l .entry)) a e) (cols (now (m .entry)) b f) ⌝ }
-{
-    let mut c = a;
-    let mut d = b;
-    while c <= e {
-        if l[c - 1] != m[d - 1] {
-            return false;
-        }
-        c += 1;
-        d += 1;
-    }
-    true
-}
-
-// Columns a to e of one line come before columns b to f of another, by bytes.
-pub fn less(l: &[u8; 80], a: usize, e: usize, m: &[u8; 80], b: usize, f: usize) -> bool
-    requires { ⌜ ((1 ≤ a) × (e ≤ 80)) × (((1 ≤ b) × (f ≤ 80)) × (e + b ≡ f + a)) ⌝ }
-    ensures value { λ t. ⌜ t ≡ isLess (cols (now (l .entry)) a e) (cols (now (m .entry)) b f) ⌝ }
-{
-    let mut c = a;
-    let mut d = b;
-    while c <= e {
-        if l[c - 1] < m[d - 1] {
-            return true;
-        }
-        if m[d - 1] < l[c - 1] {
-            return false;
-        }
-        c += 1;
-        d += 1;
-    }
-    false
 }
 
 // A digit 1-9.

@@ -6,6 +6,7 @@ ghost use Rattle.rules.specs.Kinds.{fits as fitsKind};
 ghost use Rattle.fields.specs.Paper.{kind, Sized};
 
 pub mod bytes;
+pub mod names;
 pub mod numbers;
 pub mod ranges;
 
@@ -14,6 +15,12 @@ pub enum Number {
     Malformed,
     Plus(u64),
     Minus(u64),
+}
+
+// A line name: all its 16 columns, as two numbers of 8 bytes.
+pub struct Name {
+    pub hi: u64,
+    pub lo: u64,
 }
 
 // The rule of a field, as the paper's tables give it beside the columns.

@@ -21,7 +21,7 @@ returns : tie.Need-returns Inv-loop μ-loop
 returns c = search (needs, digits-none)
 
 loop-holds : tie.Need-loop-holds Inv-loop μ-loop
-loop-holds c = (omega arith, (omega arith, (none _, search (needs, digits-some))))
+loop-holds c = (omega arith, (omega arith, (none 10 _ (omega arith), search (needs, digits-some))))
 
 sub-d : tie.Need-sub-d Inv-loop μ-loop
 sub-d c = search needs

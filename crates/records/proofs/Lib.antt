@@ -1,0 +1,5 @@
+pub mod Rows
+pub mod Sizes
+pub mod Six
+pub mod Values
+pub mod Five

@@ -1,0 +1,83 @@
+-- `records::table::relation_row` meets its contract. Assumes nothing.
+use Rattle.fields.specs.Paper.{sized}
+use Rattle.rules.specs.Layout.{sps93}
+use Rattle.rules.specs.Rows.{relationRows}
+use mathlib.Core.Path.{_≡_, refl}
+use native.Mathlib.Omega.{arith}
+use Rattle.records.proofs.table.relation_row.Statement.{statement}
+use Rattle.records.proofs.table.relation_row.Tie as tie
+
+returns : tie.Need-returns
+unfolding relationRows sps93 sized
+returns c = rw (c .match .keys1) (refl, refl)
+
+returns-2 : tie.Need-returns-2
+unfolding relationRows sps93 sized
+returns-2 c = rw (c .match .keys2) (refl, refl)
+
+returns-3 : tie.Need-returns-3
+unfolding relationRows sps93 sized
+returns-3 c = rw (c .match .keys3) (refl, refl)
+
+returns-4 : tie.Need-returns-4
+unfolding relationRows sps93 sized
+returns-4 c = rw (c .match .keys4) (refl, refl)
+
+returns-5 : tie.Need-returns-5
+unfolding relationRows sps93 sized
+returns-5 c = rw (c .match .keys5) (refl, refl)
+
+returns-6 : tie.Need-returns-6
+unfolding relationRows sps93 sized
+returns-6 c = rw (c .match .keys6) (refl, refl)
+
+returns-7 : tie.Need-returns-7
+unfolding relationRows sps93 sized
+returns-7 c = let e : c .before .before .args .j ≡ 6 = omega arith in rw e (refl, refl)
+
+returns-8 : tie.Need-returns-8
+unfolding relationRows sps93 sized
+returns-8 c = rw (c .match2 .keys1) (refl, refl)
+
+returns-9 : tie.Need-returns-9
+unfolding relationRows sps93 sized
+returns-9 c = rw (c .match2 .keys2) (refl, refl)
+
+returns-10 : tie.Need-returns-10
+unfolding relationRows sps93 sized
+returns-10 c = rw (c .match2 .keys3) (refl, refl)
+
+returns-11 : tie.Need-returns-11
+unfolding relationRows sps93 sized
+returns-11 c = rw (c .match2 .keys4) (refl, refl)
+
+returns-12 : tie.Need-returns-12
+unfolding relationRows sps93 sized
+returns-12 c = rw (c .match2 .keys5) (refl, refl)
+
+returns-13 : tie.Need-returns-13
+unfolding relationRows sps93 sized
+returns-13 c = rw (c .match2 .keys6) (refl, refl)
+
+returns-14 : tie.Need-returns-14
+unfolding relationRows sps93 sized
+returns-14 c = let e : c .before .before .args .j ≡ 13 = omega arith in rw e (refl, refl)
+
+pub relation-row-spec : {M : Type 1} → statement M
+relation-row-spec =
+    tie.close
+    (tie.spec
+    returns
+    returns-2
+    returns-3
+    returns-4
+    returns-5
+    returns-6
+    returns-7
+    returns-8
+    returns-9
+    returns-10
+    returns-11
+    returns-12
+    returns-13
+    returns-14)

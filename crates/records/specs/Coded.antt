@@ -1,0 +1,101 @@
+-- The code's tables and values as the paper's.
+--   rowOf w      = a row of a table of fields
+--   rowsOf t     = the table t
+--   noRow        = what stands beyond a table's end
+--   rowFits m l w = the field of row w of line l obeys its rule, or is free in the marker that m says l is
+--   codedReach q, codedRelation v, codedPoint v = the paper's values as the code holds them
+use Prim.Native.Nat.{ℕ}
+use lib.IntN.{ℤ}
+use mathlib.Core.Bool.{Bool, true, false, _&&_, _||_}
+use mathlib.Core.List.{List, [], _∷_}
+use Rattle.rules.specs.Places.{pick}
+use Rattle.rules.specs.Layout.{Span, sps93, at}
+use Rattle.rules.specs.Kinds.{Kind, startsNonBlank, mayBeBlank, fits}
+use Rattle.rules.specs.Points.{Held as PaperHeld, absent, held, Point as PaperPoint}
+use Rattle.rules.specs.Relations.{Reach as PaperReach, Relation as PaperRelation}
+use Rattle.fields.specs.Packed.{packed, nameOf}
+use Rattle.rules.specs.Rows.{Row as PaperRow, headerRows, pointRows, relationRows}
+use Rattle.fields.specs.Paper.{kind}
+use Rattle.records.specs.declared.point.Held.{Held}
+use Rattle.records.specs.declared.point.Held.the-variants.{Absent, Value}
+use Rattle.records.specs.declared.point.Point.{Point as PointValues}
+use Rattle.records.specs.declared.relation.Reach.{Reach}
+use Rattle.records.specs.declared.relation.Relation.{Relation as RelationValues}
+use Rattle.records.specs.declared.table.Row.{Row}
+use Rattle.records.specs.declared.table.Table.{Table}
+use Rattle.records.specs.declared.table.Table.the-variants.{Header, Point, Relation}
+
+abbrev pub orBlank : Bool → Kind → Kind
+orBlank true k = mayBeBlank k
+orBlank false k = k
+
+abbrev pub rowOf : Row → PaperRow
+rowOf w =
+    record {
+      columns = record { first = w .first; last = w .last };
+      kind = orBlank (w .blank) (kind (w .kind));
+      freeInMarker = w .free
+    }
+
+unfoldable pub rowsOf : Table → List PaperRow
+rowsOf Header = headerRows sps93
+rowsOf (Point i) = pointRows sps93 i
+rowsOf Relation = relationRows sps93
+
+abbrev pub noRow : PaperRow
+noRow = record { columns = record { first = 0; last = 0 }; kind = startsNonBlank; freeInMarker = false }
+
+unfoldable pub rowFits : Bool → List ℕ → PaperRow → Bool
+rowFits m l w = (w .freeInMarker && m) || fits (w .kind) (at l (w .columns))
+
+abbrev pub codedReach : PaperReach → Reach
+codedReach q =
+    record {
+      tape = packed (q .tape);
+      number = q .number;
+      from = q .from;
+      upto = q .upto;
+      step = q .step;
+      receiver = nameOf (q .receiver);
+      «from_receiver» = q .fromReceiver;
+      «to_receiver» = q .toReceiver;
+      «receiver_index» = q .receiverIndex
+    }
+
+abbrev pub codedRelation : PaperRelation → RelationValues
+codedRelation v =
+    record {
+      increment = v .increment;
+      instrument = v .instrument;
+      source = nameOf (v .source);
+      shot = v .shot;
+      «shot_index» = v .shotIndex;
+      reach = codedReach (v .reach)
+    }
+
+abbrev pub heldOf : Bool → ℤ → Held
+heldOf true v = Absent
+heldOf false v = Value v
+
+abbrev pub heldPaper : PaperHeld → Held
+heldPaper absent = Absent
+heldPaper (held v) = Value v
+
+abbrev pub codedPoint : PaperPoint → PointValues
+codedPoint v =
+    record {
+      name = nameOf (v .name);
+      number = v .number;
+      index = v .index;
+      code = packed (v .code);
+      fixed = heldPaper (v .static);
+      depth = v .depth;
+      datum = v .datum;
+      uphole = heldPaper (v .uphole);
+      water = heldPaper (v .water);
+      easting = v .easting;
+      northing = v .northing;
+      elevation = v .elevation;
+      day = v .day;
+      time = v .time
+    }

@@ -1,0 +1,123 @@
+// What a line is, and 5 and 6 of it: the first refusal, at the line's place.
+ghost use mathlib.Core.Path.{_≡_};
+ghost use mathlib.Core.Bool.{true, _&&_};
+ghost use Prim.Native.Nat.{ℕ, _+_, _≤_, _<_};
+ghost use Rattle.rules.specs.Plan.{run};
+ghost use Rattle.rules.specs.Text.{cols, blank as isBlank};
+ghost use Rattle.rules.specs.Layout.{sps93};
+ghost use Rattle.rules.specs.Lines.{isHeader, isMarker};
+ghost use Rattle.rules.specs.Form.{fieldsFit, rule5 as rule5Of, rule6 as rule6Of};
+ghost use Rattle.rules.specs.Relations.{reach as reachOf};
+ghost use Rattle.lines.specs.Paper.{paper};
+ghost use Rattle.fields.specs.Paper.{sized};
+ghost use Rattle.records.specs.Coded.{rowOf, rowsOf, rowFits};
+use crate::relation;
+use crate::table;
+use crate::table::Row;
+use crate::table::Table;
+use fields::bytes;
+use lines::Verdict;
+
+// H in column 1.
+pub fn is_header(l: &[u8; 80]) -> bool
+    ensures value { λ t. ⌜ t ≡ isHeader (now (l .entry)) ⌝ }
+{
+    l[0] == b'H'
+}
+
+// PM in columns 27-28.
+pub fn is_marker(l: &[u8; 80]) -> bool
+    ensures value { λ t. ⌜ t ≡ isMarker sps93 (now (l .entry)) ⌝ }
+{
+    bytes::two(l[26], l[27], b'P', b'M')
+}
+
+// Free in a line that is a marker.
+fn spared(free: bool, marker: bool) -> bool
+    ensures value { λ t. ⌜ t ≡ (free && marker) ⌝ }
+{
+    if !free {
+        return false;
+    }
+    marker
+}
+
+// Blank, where it may be.
+fn left_blank(l: &[u8; 80], may: bool, a: usize, b: usize) -> bool
+    requires { ⌜ (1 ≤ a) × (b ≤ 80) ⌝ }
+    ensures value { λ t. ⌜ t ≡ (may && isBlank (cols (now (l .entry)) a b)) ⌝ }
+{
+    if !may {
+        return false;
+    }
+    bytes::blank(l, a, b)
+}
+
+// Whether a field obeys its rule, or is free in a marker.
+fn row_fits(l: &[u8; 80], w: Row, marker: bool) -> bool
+    requires { ⌜ sized (w .kind) (w .first) (w .last) ≡ true ⌝ }
+    ensures value { λ t. ⌜ t ≡ rowFits marker (now (l .entry)) (rowOf w) ⌝ }
+{
+    if spared(w.free, marker) {
+        return true;
+    }
+    if left_blank(l, w.blank, w.first, w.last) {
+        return true;
+    }
+    let k = w.kind;
+    fields::fits(k, l, w.first, w.last)
+}
+
+// 5 over the rows of a table, from the left: line k, from 0, of file i.
+fn fields_fit(l: &[u8; 80], t: Table, marker: bool, i: u8, k: u32) -> Verdict
+    requires { ⌜ k < 10000 ⌝ }
+    ensures verdict { λ v. ⌜ paper v ≡ run (fieldsFit i k marker (now (l .entry)) (rowsOf t)) ⌝ }
+{
+    let n = table::row_count(t);
+    let mut j = 0;
+    while j < n {
+        let w = table::row_at(t, j);
+        if !row_fits(l, w, marker) {
+            return Verdict::Refused(5, i, k + 1, w.first as u8);
+        }
+        j += 1;
+    }
+    Verdict::Fine
+}
+
+// 5 of line k, from 0, of file i.
+pub fn rule5(l: &[u8; 80], i: u8, k: u32) -> Verdict
+    requires { ⌜ k < 10000 ⌝ }
+    ensures verdict { λ v. ⌜ paper v ≡ run (rule5Of i sps93 k (now (l .entry))) ⌝ }
+{
+    if is_header(l) {
+        return fields_fit(l, Table::Header, false, i, k);
+    }
+    if i == 3 {
+        return fields_fit(l, Table::Relation, false, i, k);
+    }
+    fields_fit(l, Table::Point(i), is_marker(l), i, k)
+}
+
+// 6 of line k of X, from 0, whose fields obey 5.
+pub fn rule6(l: &[u8; 80], k: u32) -> Verdict
+    requires { ⌜ (k < 10000) × (1 ≤ reachOf sps93 (now l) .step) ⌝ }
+    ensures verdict { λ v. ⌜ paper v ≡ run (rule6Of sps93 k (reachOf sps93 (now (l .entry)))) ⌝ }
+{
+    let q = relation::reach_of(l);
+    if q.upto < q.from {
+        return Verdict::Refused(6, 3, k + 1, 39);
+    }
+    if q.to_receiver < q.from_receiver {
+        return Verdict::Refused(6, 3, k + 1, 64);
+    }
+    let n = q.upto + 1 - q.from;
+    let i = q.step;
+    if n % i != 0 {
+        return Verdict::Refused(6, 3, k + 1, 47);
+    }
+    if n / i != q.to_receiver + 1 - q.from_receiver {
+        return Verdict::Refused(6, 3, k + 1, 72);
+    }
+    Verdict::Fine
+}
