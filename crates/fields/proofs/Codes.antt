@@ -51,8 +51,8 @@ module _ (l : List ℕ) (a : ℕ) (o : 1 ≤ a) where
   two-columns =
       cols-step l a o (a + 1) (omega arith)
       ∙ ap (λ (r : List ℕ). getD l (a - 1) 0 ∷ r)
-        (cols-step l (a + 1) (omega arith) (a + 1) (omega arith)
-         ∙ ap₂ _∷_ (ap (λ (i : ℕ). getD l i 0) (let z : a + 1 - 1 ≡ a = omega arith in z)) (cols-end l (a + 1 + 1) (omega arith) (a + 1) (omega arith)))
+      (cols-step l (a + 1) (omega arith) (a + 1) (omega arith)
+      ∙ ap₂ _∷_ (ap (λ (i : ℕ). getD l i 0) (let z : a + 1 - 1 ≡ a = omega arith in z)) (cols-end l (a + 1 + 1) (omega arith) (a + 1) (omega arith)))
 
   abbrev Two : ℕ → ℕ → Bool
   Two x y = same (getD l (a - 1) 0 ∷ getD l a 0 ∷ []) (x ∷ y ∷ [])

@@ -30,16 +30,16 @@ ink-above c (b ∷ bs) = go (eqb b 32) (ink-above (suc c) bs)
 -- what stands after the blanks is what is read
 module _ (read : List ℕ → Number) (empty : malformed ≡ read []) (l : List ℕ) (b : ℕ) where
   by-byte : (a : ℕ) (t : Bool) → 1 ≤ a → a ≤ b
-    → read (cols l (inkFrom (suc a) (cols l (a + 1) b)) b) ≡ justified read (cols l (a + 1) b)
-    → read (cols l (pick t (inkFrom (suc a) (cols l (a + 1) b)) a) b)
+      → read (cols l (inkFrom (suc a) (cols l (a + 1) b)) b) ≡ justified read (cols l (a + 1) b)
+      → read (cols l (pick t (inkFrom (suc a) (cols l (a + 1) b)) a) b)
       ≡ pick t (justified read (cols l (a + 1) b)) (read (getD l (a - 1) 0 ∷ cols l (a + 1) b))
   unfolding pick
   by-byte a true o q ih = ih
   by-byte a false o q ih = ap read (cols-step l a o b q)
 
   by-size : (a : ℕ) (t : Bool) → 1 ≤ a → leb a b ≡ t
-    → (a ≤ b → read (cols l (inkFrom (suc a) (cols l (a + 1) b)) b) ≡ justified read (cols l (a + 1) b))
-    → read (cols l (inkFrom a (cols l a b)) b) ≡ justified read (cols l a b)
+      → (a ≤ b → read (cols l (inkFrom (suc a) (cols l (a + 1) b)) b) ≡ justified read (cols l (a + 1) b))
+      → read (cols l (inkFrom a (cols l a b)) b) ≡ justified read (cols l a b)
   unfolding inkFrom justified
   by-size a true o e ih =
       let q = leb-true a b e in
@@ -54,8 +54,8 @@ module _ (read : List ℕ → Number) (empty : malformed ≡ read []) (l : List 
   ink-from (suc d) a o h =
       by-size a (leb a b) o refl
       (λ q.
-        ap (λ (m : ℕ). read (cols l (inkFrom m (cols l (a + 1) b)) b)) (sym (add-one a))
-        ∙ ink-from d (a + 1) (omega arith) (omega arith))
+      ap (λ (m : ℕ). read (cols l (inkFrom m (cols l (a + 1) b)) b)) (sym (add-one a))
+      ∙ ink-from d (a + 1) (omega arith) (omega arith))
 
   pub ink-justified : (a : ℕ) → 1 ≤ a → read (cols l (inkFrom a (cols l a b)) b) ≡ justified read (cols l a b)
   ink-justified a o = ink-from (suc b) a o (omega arith)

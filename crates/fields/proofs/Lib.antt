@@ -4,3 +4,4 @@ pub mod Signs
 pub mod Codes
 pub mod Widths
 pub mod Packed
+pub mod One

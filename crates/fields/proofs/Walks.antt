@@ -68,7 +68,7 @@ module _ (l : List ℕ) (c b : ℕ) (o : 1 ≤ c) where
       digits-high p q = (rw (cols-step l c o b h, le-leb _ _ p, lt-leb _ _ q)) ∙ e
 
       pub digits-step : (d : ℕ) → 48 ≤ getD l (c - 1) 0 → getD l (c - 1) 0 ≤ 57 → d ≡ getD l (c - 1) 0 - 48
-        → digitsAfter (10 * v + d) (cols l (c + 1) b) ≡ X
+          → digitsAfter (10 * v + d) (cols l (c + 1) b) ≡ X
       unfolding digitsAfter digit pick
       digits-step d p q r = rw r ((rw (cols-step l c o b h, le-leb _ _ p, le-leb _ _ q)) ∙ e)
 

@@ -34,7 +34,10 @@ pub fn name(l: &[u8; 80], a: usize) -> Name
     requires { ⌜ (1 ≤ a) × (a ≤ 65) ⌝ }
     ensures value { λ n. ⌜ n ≡ nameOf (text (cols (now (l .entry)) a (a + 15))) ⌝ }
 {
-    Name { hi: pack(l, a, a + 7), lo: pack(l, a + 8, a + 15) }
+    Name {
+        hi: pack(l, a, a + 7),
+        lo: pack(l, a + 8, a + 15),
+    }
 }
 
 pub fn same_name(m: Name, n: Name) -> bool

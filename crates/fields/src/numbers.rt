@@ -7,8 +7,8 @@ ghost use Rattle.rules.specs.Numbers.{digits as digitsOf, whole as wholeOf, sig
 ghost use Rattle.rules.specs.Kinds.{water as waterOf};
 ghost use Rattle.fields.specs.Paper.{number};
 ghost use Rattle.fields.specs.Ink.{inkFrom, pointDigit, tenthsOf};
-use crate::ranges;
 use crate::Number;
+use crate::ranges;
 
 fn wide(b: u8) -> u64
     ensures { λ r. ⌜ r ≡ b ⌝ }

@@ -20,9 +20,9 @@ copied-more f l a c h w i g =
     more (rw (← (add-one c)) g)
     (λ q. let ne : i ≡ c → ⊥ = λ e. omega arith in getD-set-other l c i (getD f (a + c) 0) 0 ne ∙ w .1 i q)
     (λ q.
-      let n = w .0 in
-      ap (λ (j : ℕ). getD (set l c (getD f (a + c) 0)) j 0) q ∙ getD-set-same l c (getD f (a + c) 0) 0 (omega arith)
-      ∙ ap (λ (j : ℕ). getD f (a + j) 0) (sym q))
+    let n = w .0 in
+    ap (λ (j : ℕ). getD (set l c (getD f (a + c) 0)) j 0) q ∙ getD-set-same l c (getD f (a + c) 0) 0 (omega arith)
+    ∙ ap (λ (j : ℕ). getD f (a + j) 0) (sym q))
 
 pub copied-all : (f l : List ℕ) (a : ℕ) → a + 80 ≤ length f → Copied f l a 80 → l ≡ take 80 (drop a f)
 copied-all f l a h w =
@@ -32,7 +32,7 @@ copied-all f l a h w =
 
 -- what is left of 82 bytes from a on, after c of them
 pub rest-step : (f : List ℕ) (a w c : ℕ) → c < w → a + w ≤ length f
-  → take (w - c) (drop (a + c) f) ≡ getD f (a + c) 0 ∷ take (w - (c + 1)) (drop (a + (c + 1)) f)
+    → take (w - c) (drop (a + c) f) ≡ getD f (a + c) 0 ∷ take (w - (c + 1)) (drop (a + (c + 1)) f)
 rest-step f a w c h l =
     let e : w - c ≡ suc (w - (c + 1)) = omega arith in
     let n : suc (a + c) ≡ a + (c + 1) = omega arith in

@@ -19,7 +19,7 @@ or-else-end fine = refl
 or-else-end (refused w) = refl
 
 one-of : (h x : Bool) (a b c : Plan)
-  → run (when h a before when (not h && not x) b before when (not h && x) c) ≡ pick h (run a) (pick x (run c) (run b))
+    → run (when h a before when (not h && not x) b before when (not h && x) c) ≡ pick h (run a) (pick x (run c) (run b))
 unfolding run pick _orElse_
 one-of true x a b c = or-else-end (run a)
 one-of false true a b c = refl
@@ -27,13 +27,13 @@ one-of false false a b c = or-else-end (run b)
 
 module _ (i k : ℕ) (l : List ℕ) (v : Verdict) (t : Bool) (q : t ≡ isHeader l) where
   all : pick (isHeader l) (run (fieldsFit i k false l (headerRows sps93)))
-    (pick (eqb i 3) (run (fieldsFit i k false l (relationRows sps93))) (run (fieldsFit i k (isMarker sps93 l) l (pointRows sps93 i))))
-    ≡ run (rule5 i sps93 k l)
+      (pick (eqb i 3) (run (fieldsFit i k false l (relationRows sps93))) (run (fieldsFit i k (isMarker sps93 l) l (pointRows sps93 i))))
+      ≡ run (rule5 i sps93 k l)
   unfolding rule5
   all =
       sym
       (one-of (isHeader l) (eqb i 3) (fieldsFit i k false l (headerRows sps93)) (fieldsFit i k (isMarker sps93 l) l (pointRows sps93 i))
-       (fieldsFit i k false l (relationRows sps93)))
+      (fieldsFit i k false l (relationRows sps93)))
 
   pub five-header : t ≡ true → v ≡ run (fieldsFit i k false l (headerRows sps93)) → v ≡ run (rule5 i sps93 k l)
   unfolding pick

@@ -3,3 +3,4 @@ pub mod Sizes
 pub mod Six
 pub mod Values
 pub mod Five
+pub mod One

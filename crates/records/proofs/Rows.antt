@@ -58,7 +58,7 @@ or-blank false k bs = refl
 
 module _ (m : Bool) (l : List ℕ) (w : CodeRow) where
   asks : ((w .free && m) || ((w .blank && blank (cols l (w .first) (w .last))) || fits (kind (w .kind)) (cols l (w .first) (w .last))))
-    ≡ rowFits m l (rowOf w)
+      ≡ rowFits m l (rowOf w)
   unfolding rowFits at
   asks = ap (λ (t : Bool). (w .free && m) || t) (sym (or-blank (w .blank) (kind (w .kind)) (cols l (w .first) (w .last))))
 

@@ -83,7 +83,7 @@ module _ (k : ℕ) (p : PaperReach) (q : Reach) (e : q ≡ codedReach p) where
         three = eq-eqb (traces p % p .step) 0 (sym remainder ∙ m)
 
         pub six-count : ((q .upto + 1 - q .from) / q .step ≡ q .«to_receiver» + 1 - q .«from_receiver» → ⊥)
-          → refused (№ 6 3 (k + 1) 72) ≡ run (rule6 sps93 k p)
+            → refused (№ 6 3 (k + 1) 72) ≡ run (rule6 sps93 k p)
         unfolding rule6 sps93
         six-count h =
             need-broken _ _ (ne-eqb _ _ (λ z. h (quotient ∙ z ∙ sym receivers-are)))

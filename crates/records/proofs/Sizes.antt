@@ -35,7 +35,7 @@ unfolding water pick size
 water-62 bs = go (between 0 999 (decimal whole bs)) refl (between 0 999 (whole bs)) refl
   where
     go : (a : Bool) → between 0 999 (decimal whole bs) ≡ a → (b : Bool) → between 0 999 (whole bs) ≡ b
-      → size (pick a (decimal whole bs) (pick b (then (whole bs) 0) malformed)) < 2 ^ 62
+        → size (pick a (decimal whole bs) (pick b (then (whole bs) 0) malformed)) < 2 ^ 62
     go true e b f = let h = in-range (decimal whole bs) e in omega arith
     go false e true f = let h = then-range (whole bs) f in omega arith
     go false e false f = omega arith

@@ -34,7 +34,7 @@ rowOf w =
     record {
       columns = record { first = w .first; last = w .last };
       kind = orBlank (w .blank) (kind (w .kind));
-      freeInMarker = w .free
+      freeInMarker = w .free;
     }
 
 unfoldable pub rowsOf : Table → List PaperRow
@@ -59,7 +59,7 @@ codedReach q =
       receiver = nameOf (q .receiver);
       «from_receiver» = q .fromReceiver;
       «to_receiver» = q .toReceiver;
-      «receiver_index» = q .receiverIndex
+      «receiver_index» = q .receiverIndex;
     }
 
 abbrev pub codedRelation : PaperRelation → RelationValues
@@ -70,7 +70,7 @@ codedRelation v =
       source = nameOf (v .source);
       shot = v .shot;
       «shot_index» = v .shotIndex;
-      reach = codedReach (v .reach)
+      reach = codedReach (v .reach);
     }
 
 abbrev pub heldOf : Bool → ℤ → Held
@@ -97,5 +97,5 @@ codedPoint v =
       northing = v .northing;
       elevation = v .elevation;
       day = v .day;
-      time = v .time
+      time = v .time;
     }

@@ -3,4 +3,4 @@
 pub mod fits;
 pub mod point;
 pub mod relation;
-pub mod table;
+mod table;

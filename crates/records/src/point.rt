@@ -8,12 +8,12 @@ ghost use Rattle.rules.specs.Points.{point as pointValues};
 ghost use Rattle.fields.specs.Paper.{number};
 ghost use Rattle.records.specs.Coded.{heldOf, codedPoint};
 use crate::relation;
+use fields::Name;
+use fields::Number;
 use fields::bytes;
 use fields::names;
 use fields::numbers;
 use fields::ranges;
-use fields::Name;
-use fields::Number;
 
 // A field that may be blank.
 pub enum Held {

@@ -7,11 +7,11 @@ ghost use Rattle.rules.specs.Numbers.{whole as wholeOf, size as sizeOf};
 ghost use Rattle.rules.specs.Kinds.{indexOf};
 ghost use Rattle.rules.specs.Relations.{reach as reachValues, relation as relationValues};
 ghost use Rattle.records.specs.Coded.{codedReach, codedRelation};
+use fields::Name;
 use fields::bytes;
 use fields::names;
 use fields::numbers;
 use fields::ranges;
-use fields::Name;
 
 // What a relation line covers, of which tape and record.
 pub struct Reach {

@@ -71,7 +71,6 @@ module _ (L : Layout) (f : List ℕ) where
   room k h = omega arith
 
   module _ (k : ℕ) (h : k < disc L f .count) where
-
     pub row-length : length (disc L f .row k) ≡ 80
     unfolding disc
     row-length = let r = room k h in simp (length-take, length-drop) (omega arith)

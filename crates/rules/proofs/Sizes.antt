@@ -33,11 +33,11 @@ after-small [] v i h = rw add-zero h
 after-small (b ∷ bs) v i h =
     pick-small (digit b) (digitsAfter (10 * v + (b - 48)) bs) (i + suc (length bs))
     (λ t.
-      let d = digit-is b .0 t in
-      let p = pow-suc 10 i in
-      let g : 10 * v + (b - 48) < 10 ^ suc i = omega arith in
-      subst (Small (digitsAfter (10 * v + (b - 48)) bs)) (let z : suc i + length bs ≡ i + suc (length bs) = omega arith in z)
-      (after-small bs (10 * v + (b - 48)) (suc i) g))
+    let d = digit-is b .0 t in
+    let p = pow-suc 10 i in
+    let g : 10 * v + (b - 48) < 10 ^ suc i = omega arith in
+    subst (Small (digitsAfter (10 * v + (b - 48)) bs)) (let z : suc i + length bs ≡ i + suc (length bs) = omega arith in z)
+    (after-small bs (10 * v + (b - 48)) (suc i) g))
 
 pub digits-small : (bs : List ℕ) → Small (digits bs) (length bs)
 unfolding digits
@@ -91,9 +91,9 @@ decimal-small read f bs =
     let d = getD bs (w - 1) 0 in
     pick-small _ _ w
     (λ t.
-      let e = simp says at t in
-      let g = digit-is d .0 (e .1) in
-      let two = e .0 .0 in
-      let n : length (take (w - 2) bs) ≡ w - 2 = simp length-take (omega arith) in
-      small-more _ (suc (w - 2)) w (omega arith)
-      (then-small (read (take (w - 2) bs)) (d - 48) (w - 2) (omega arith) (rw n at (f (take (w - 2) bs)))))
+    let e = simp says at t in
+    let g = digit-is d .0 (e .1) in
+    let two = e .0 .0 in
+    let n : length (take (w - 2) bs) ≡ w - 2 = simp length-take (omega arith) in
+    small-more _ (suc (w - 2)) w (omega arith)
+    (then-small (read (take (w - 2) bs)) (d - 48) (w - 2) (omega arith) (rw n at (f (take (w - 2) bs)))))

@@ -4,11 +4,8 @@ use Rattle.fields.proofs.Codes.{first-column}
 use Rattle.fields.proofs.Widths.{code-wide, time-wide}
 use Rattle.fields.specs.Paper.{kind}
 use Rattle.fields.specs.declared.Kind.{Kind}
-use Rattle.rules.proofs.Traces.{given}
-use Rattle.rules.specs.Kinds.{between, code, digit1, fits, formed, isCode, isTime, time, water, within}
-use Rattle.rules.specs.Numbers.{decimal, signed, whole}
+use Rattle.rules.specs.Kinds.{between, digit1, fits, formed, isCode, isTime, within}
 use Rattle.rules.specs.Text.{cols}
-use denote.Ref.{now}
 use lib.Dec.{eqb}
 use mathlib.Core.Bool.{_||_, not}
 use mathlib.Core.Path.{_∙_, ap, sym}
@@ -66,7 +63,7 @@ enum-told-6 : tie.Need-enum-told-6
 enum-told-6 c = search needs
 
 time-requires : tie.Need-time-requires
-time-requires c κs = 
+time-requires c κs =
     let b = c .before .before in
     let e = time-wide _ _ _ (c .enum-told6 .given .1) (b .pre .1 .1 .1 .1) in
     let h : b .args .a ≤ 75 = omega arith in
@@ -112,7 +109,7 @@ enum-known-k-5 : tie.Need-enum-known-k-5
 enum-known-k-5 c = search needs
 
 code-requires : tie.Need-code-requires
-code-requires c κs = 
+code-requires c κs =
     let b = c .before .before .before in
     let e = code-wide _ _ _ _ (c .before .k5 .given .1) (b .pre .1 .1 .1 .1) in
     let h : b .args .a ≤ 79 = omega arith in
@@ -140,7 +137,7 @@ returns-5 c = c .formed2 .ensures ∙ ap formed (c .before .water .ensures) ∙ 
 
 returns-6 : tie.Need-returns-6
 unfolding fits
-returns-6 c = 
+returns-6 c =
     let b = c .before .before .before in
     c .time .ensures ∙ ap (λ (e : ℕ). isTime (cols (b .args .l .now) (b .args .a) e)) (sym (time-wide _ _ _ (c .before .enum-told6 .given .1) (b .pre .1 .1 .1 .1)))
     ∙ sym (ap (λ (k : Kind). fits (kind k) (cols (b .args .l .now) (b .args .a) (b .args .b))) (c .before .enum-told6 .given .1))
@@ -163,7 +160,7 @@ returns-10 c = c .between2 .ensures ∙ ap (between _ _) (c .before .decimal .en
 
 returns-11 : tie.Need-returns-11
 unfolding fits
-returns-11 c = 
+returns-11 c =
     let b = c .before .before .before .before in
     c .code .ensures ∙ ap (λ (e : ℕ). isCode (c .before .before .k5 .given .0 .0) (cols (b .args .l .now) (b .args .a) e)) (sym (code-wide _ _ _ _ (c .before .before .k5 .given .1) (b .pre .1 .1 .1 .1)))
     ∙ sym (ap (λ (k : Kind). fits (kind k) (cols (b .args .l .now) (b .args .a) (b .args .b))) (c .before .before .k5 .given .1))

@@ -1,9 +1,6 @@
 use Rattle.rules.specs.Disc.{disc}
-use Prim.Native.Nat.{ℕ, _+_, _-_, _*_, _≤_, _<_}
-use mathlib.Core.Path.{_≡_, refl, ap, sym, _∙_}
-use native.Mathlib.Omega.{arith}
-use borrow.Author.Needs.{needs}
-use lib.ListN.{length, take, drop, getD}
+use Prim.Native.Nat.{_+_, _-_, _*_, _≤_, _<_}
+use mathlib.Core.Path.{_≡_, refl, _∙_}
 use Rattle.lines.proofs.line_count.Statement.{statement}
 use Rattle.lines.proofs.line_count.Tie as tie
 use Rattle.lines.proofs.line_count.Reads as reads

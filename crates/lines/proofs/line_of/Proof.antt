@@ -2,11 +2,11 @@ use Rattle.rules.proofs.Disc.{room}
 use Rattle.rules.specs.Disc.{disc}
 use Rattle.rules.specs.Layout.{sps93}
 use Rattle.lines.proofs.Laws.{Copied, copied-more, copied-all}
-use Prim.Native.Nat.{ℕ, _+_, _-_, _*_, _≤_, _<_}
-use mathlib.Core.Path.{_≡_, refl, ap, sym, _∙_}
+use Prim.Native.Nat.{_+_, _-_, _*_, _≤_, _<_}
+use mathlib.Core.Path.{_≡_, refl, _∙_}
 use native.Mathlib.Omega.{arith}
 use borrow.Author.Needs.{needs}
-use lib.ListN.{length, take, drop, getD, length-set}
+use lib.ListN.{length-set}
 use Rattle.lines.proofs.line_of.Statement.{statement}
 use Rattle.lines.proofs.line_of.Tie as tie
 use Rattle.lines.proofs.line_of.Reads as reads
@@ -42,9 +42,10 @@ loop-less c = search needs
 loop-again : tie.Need-loop-again Inv-loop μ-loop
 loop-again c =
     let at = c .before .before .loop in
-    let a = c .before .before .before .args in
-    (omega arith,
-    (length-set (at .l) (at .c) _ ∙ at .inv .1 .0, copied-more (a .f .now) (at .l) (82 * a .k) (at .c) (omega arith) (at .inv .1)))
+    let a = c .before .before .before .args in (
+      omega arith,
+      (length-set (at .l) (at .c) _ ∙ at .inv .1 .0, copied-more (a .f .now) (at .l) (82 * a .k) (at .c) (omega arith) (at .inv .1)),
+    )
 
 returns : tie.Need-returns Inv-loop μ-loop
 unfolding disc

@@ -1,6 +1,6 @@
 -- `lines::show` meets its contract. Assumes nothing.
 use Rattle.rules.specs.Places.{pick}
-use Rattle.rules.specs.Show.{ofS, show, shown, startIn}
+use Rattle.rules.specs.Show.{ofS, show, startIn}
 use borrow.Author.Tests.{eq-eqb, ne-eqb}
 use mathlib.Core.Path.{refl}
 use native.Mathlib.Nat.{zero-add}

@@ -4,11 +4,11 @@ use Rattle.rules.proofs.Disc.{room}
 use Rattle.rules.specs.Disc.{disc, strayFrom}
 use Rattle.rules.specs.Layout.{sps93}
 use Rattle.lines.proofs.Laws.{stray-end, stray-stop, stray-step}
-use Prim.Native.Nat.{ℕ, _+_, _-_, _*_, _≤_, _<_}
-use mathlib.Core.Path.{_≡_, refl, ap, sym, _∙_}
+use Prim.Native.Nat.{_+_, _-_, _*_, _≤_, _<_}
+use mathlib.Core.Path.{_≡_, _∙_}
 use native.Mathlib.Omega.{arith}
 use borrow.Author.Needs.{needs}
-use lib.ListN.{length, take, drop, getD}
+use lib.ListN.{take, drop}
 use Rattle.lines.proofs.stray.Statement.{statement}
 use Rattle.lines.proofs.stray.Tie as tie
 use Rattle.lines.proofs.stray.Reads as reads

@@ -1,6 +1,5 @@
 -- `fields::bytes::code` meets its contract. Assumes nothing.
 use Rattle.fields.proofs.Codes.{code-digit, code-killed, code-marker, code-other}
-use Rattle.rules.specs.Kinds.{digit1, family}
 use borrow.Author.Tests.{not-false, not-true}
 use mathlib.Core.Path.{_∙_, sym}
 use borrow.Author.Needs.{needs}
@@ -26,7 +25,7 @@ two-requires-2 : tie.Need-two-requires-2
 two-requires-2 c κs = search needs
 
 returns-2 : tie.Need-returns-2
-returns-2 c = 
+returns-2 c =
     let b = c .before .before in
     code-killed _ _ (b .before .before .before .before .pre .0) _ (sym (b .before .two .ensures) ∙ b .if1 .left) (sym (c .before .two2 .ensures) ∙ c .if2 .taken)
 
@@ -34,7 +33,7 @@ family-requires : tie.Need-family-requires
 family-requires c κs = search needs
 
 returns-3 : tie.Need-returns-3
-returns-3 c = 
+returns-3 c =
     let d = c .before .before in
     let b = d .before .before in
     code-other _ _ (b .before .before .before .before .pre .0) _ (sym (b .before .two .ensures) ∙ b .if1 .left)
@@ -44,13 +43,13 @@ digit1-requires : tie.Need-digit1-requires
 digit1-requires c κs = search needs
 
 returns-4 : tie.Need-returns-4
-returns-4 c = 
+returns-4 c =
     let e = c .before in
     let d = e .before .before in
     let b = d .before .before in
     c .digit1 .ensures
     ∙ code-digit _ _ (b .before .before .before .before .pre .0) _ (sym (b .before .two .ensures) ∙ b .if1 .left)
-      (sym (d .before .two2 .ensures) ∙ d .if2 .left) (sym (e .before .family .ensures) ∙ not-false _ (e .if3 .left))
+    (sym (d .before .two2 .ensures) ∙ d .if2 .left) (sym (e .before .family .ensures) ∙ not-false _ (e .if3 .left))
 
 pub code-spec : {M : Type 1} → statement M
 code-spec =

@@ -1,5 +1,4 @@
 -- `fields::bytes::index_fits` meets its contract. Assumes nothing.
-use Rattle.rules.specs.Kinds.{digit1}
 use borrow.Author.Tests.{eq-eqb, ne-eqb}
 use borrow.Author.Needs.{needs}
 use Rattle.fields.proofs.bytes.index_fits.Statement.{statement}

@@ -1,7 +1,6 @@
 -- `fields::bytes::time` meets its contract. Assumes nothing.
 use Rattle.fields.proofs.Codes.{time-hours, time-minutes, time-seconds}
 use Rattle.rules.specs.Kinds.{between}
-use Rattle.rules.specs.Numbers.{digits}
 use borrow.Author.Tests.{not-false, not-true}
 use mathlib.Core.Path.{_∙_, ap, sym}
 use borrow.Author.Needs.{needs}
@@ -33,7 +32,7 @@ between-requires-2 : tie.Need-between-requires-2
 between-requires-2 c κs = search needs
 
 returns-2 : tie.Need-returns-2
-returns-2 c = 
+returns-2 c =
     let b = c .before .before .before in
     time-minutes _ _ (b .before .before .before .pre .0) (sym (b .before .between .ensures ∙ ap (between 0 23) (b .before .before .digits .ensures)) ∙ not-false _ (b .if1 .left))
     (sym (c .before .between2 .ensures ∙ ap (between 0 59) (c .before .before .digits2 .ensures)) ∙ not-true _ (c .if2 .taken))
@@ -51,12 +50,12 @@ between-requires-3 : tie.Need-between-requires-3
 between-requires-3 c κs = search needs
 
 returns-3 : tie.Need-returns-3
-returns-3 c = 
+returns-3 c =
     let d = c .before .before in
     let b = d .before .before .before in
     c .between3 .ensures ∙ ap (between 0 59) (c .before .digits3 .ensures)
     ∙ time-seconds _ _ (b .before .before .before .pre .0) (sym (b .before .between .ensures ∙ ap (between 0 23) (b .before .before .digits .ensures)) ∙ not-false _ (b .if1 .left))
-      (sym (d .before .between2 .ensures ∙ ap (between 0 59) (d .before .before .digits2 .ensures)) ∙ not-false _ (d .if2 .left))
+    (sym (d .before .between2 .ensures ∙ ap (between 0 59) (d .before .before .digits2 .ensures)) ∙ not-false _ (d .if2 .left))
 
 pub time-spec : {M : Type 1} → statement M
 time-spec =

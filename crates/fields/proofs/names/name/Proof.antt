@@ -1,7 +1,6 @@
 -- `fields::names::name` meets its contract. Assumes nothing.
 use Rattle.fields.proofs.Packed.{name-hi, name-lo}
 use Rattle.fields.specs.Packed.{packed}
-use denote.Ref.{now}
 use mathlib.Core.Path.{_∙_, ap, sym}
 use borrow.Author.Needs.{needs}
 use Rattle.fields.proofs.names.name.Statement.{statement}
@@ -23,7 +22,7 @@ pack-requires-2 : tie.Need-pack-requires-2
 pack-requires-2 c κs = search needs
 
 returns : tie.Need-returns
-returns c = 
+returns c =
     let a = c .before .before .args in
     let o = c .before .before .pre .0 in
     let h = c .before .pack .ensures ∙ ap packed (sym (name-hi (a .l .now) (a .a) o)) in

@@ -2,8 +2,6 @@
 use Prim.Native.Nat.{_+_, _-_, _<_, _^_, _≤_}
 use Rattle.fields.proofs.Walks.{byte-more, eight, none, packed-end, packed-step}
 use Rattle.fields.specs.Packed.{packed, packedAfter}
-use Rattle.fields.specs.Paper.{wide}
-use Rattle.rules.specs.Layout.{at}
 use Rattle.rules.specs.Text.{cols}
 use mathlib.Core.Path.{_≡_, refl}
 use borrow.Author.Needs.{needs}
@@ -33,7 +31,7 @@ wide-requires : tie.Need-wide-requires Inv-loop μ-loop
 wide-requires c κs = search needs
 
 add-v : tie.Need-add-v Inv-loop μ-loop
-add-v c = 
+add-v c =
     let at = c .before .before .before .loop in
     let a = c .before .before .before .before .args in
     let h = eight _ (at .inv .1 .1 .0) (omega arith) in
@@ -47,13 +45,18 @@ loop-less : tie.Need-loop-less Inv-loop μ-loop
 loop-less c = search needs
 
 loop-again : tie.Need-loop-again Inv-loop μ-loop
-loop-again c = 
+loop-again c =
     let at = c .before .before .before .loop in
-    let a = c .before .before .before .before .args in
-    (omega arith,
-    (omega arith,
-    (byte-more (a .a) (at .c) (at .inv .1 .0) (at .inv .1 .1 .0) (c .wide .ensures .1),
-    packed-step _ _ _ (at .inv .0) _ _ (at .inv .1 .1 .1) _ (omega arith) (c .wide .ensures .0))))
+    let a = c .before .before .before .before .args in (
+      omega arith,
+      (
+        omega arith,
+        (
+          byte-more (a .a) (at .c) (at .inv .1 .0) (at .inv .1 .1 .0) (c .wide .ensures .1),
+          packed-step _ _ _ (at .inv .0) _ _ (at .inv .1 .1 .1) _ (omega arith) (c .wide .ensures .0),
+        ),
+      ),
+    )
 
 returns : tie.Need-returns Inv-loop μ-loop
 returns c = search (needs, packed-end)

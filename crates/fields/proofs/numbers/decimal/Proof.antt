@@ -20,7 +20,7 @@ whole-requires : tie.Need-whole-requires
 whole-requires c κs = (omega arith, (omega arith, omega arith))
 
 tenths-requires : tie.Need-tenths-requires
-tenths-requires c κs = 
+tenths-requires c κs =
     let a = c .before .before .args in
     (omega arith, (omega arith, rw (c .whole .ensures) (few _ _ (a .a) (a .b - 2) (omega arith) (omega arith) (whole-small _))))
 

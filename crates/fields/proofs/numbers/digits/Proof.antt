@@ -1,8 +1,6 @@
 -- `fields::numbers::digits` meets its contract. Assumes nothing.
 use Prim.Native.Nat.{_+_, _-_, _<_, _^_, _≤_}
 use Rattle.fields.proofs.Walks.{cap, digits-end, digits-high, digits-low, digits-none, digits-some, digits-step, grow, none}
-use Rattle.fields.specs.Paper.{wide}
-use Rattle.rules.specs.Layout.{at}
 use Rattle.rules.specs.Numbers.{digits, digitsAfter}
 use Rattle.rules.specs.Text.{cols}
 use mathlib.Core.Path.{_≡_}
@@ -36,13 +34,15 @@ returns-3 : tie.Need-returns-3 Inv-loop μ-loop
 returns-3 c = search (needs, digits-high)
 
 mul-v : tie.Need-mul-v Inv-loop μ-loop
-mul-v c = let h = cap _ (c .before .before .before .before .loop .inv .1 .1 .0) (omega arith) in omega arith
+mul-v c =
+    let h = cap _ (c .before .before .before .before .loop .inv .1 .1 .0) (omega arith) in
+    omega arith
 
 wide-requires : tie.Need-wide-requires Inv-loop μ-loop
 wide-requires c κs = search needs
 
 add-v : tie.Need-add-v Inv-loop μ-loop
-add-v c = 
+add-v c =
     let at = c .before .before .before .before .before .loop in
     let a = c .before .before .before .before .before .before .before .args in
     let h = cap _ (at .inv .1 .1 .0) (omega arith) in
@@ -56,12 +56,15 @@ loop-less : tie.Need-loop-less Inv-loop μ-loop
 loop-less c = search needs
 
 loop-again : tie.Need-loop-again Inv-loop μ-loop
-loop-again c = 
+loop-again c =
     let at = c .before .before .before .before .before .loop in
-    let a = c .before .before .before .before .before .before .before .args in
-    (omega arith,
-    (omega arith,
-    (grow (a .a) (at .c) (at .inv .1 .0) (at .inv .1 .1 .0) (let w = c .wide .ensures in omega arith), search (needs, digits-step))))
+    let a = c .before .before .before .before .before .before .before .args in (
+      omega arith,
+      (
+        omega arith,
+        (grow (a .a) (at .c) (at .inv .1 .0) (at .inv .1 .1 .0) (let w = c .wide .ensures in omega arith), search (needs, digits-step)),
+      ),
+    )
 
 returns-4 : tie.Need-returns-4 Inv-loop μ-loop
 returns-4 c = search (needs, digits-end)

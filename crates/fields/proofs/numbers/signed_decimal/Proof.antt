@@ -20,7 +20,7 @@ signed-requires : tie.Need-signed-requires
 signed-requires c κs = (omega arith, (omega arith, omega arith))
 
 tenths-requires : tie.Need-tenths-requires
-tenths-requires c κs = 
+tenths-requires c κs =
     let a = c .before .before .args in
     (omega arith, (omega arith, rw (c .signed .ensures) (few _ _ (a .a) (a .b - 2) (omega arith) (omega arith) (signed-small _))))
 

@@ -1,7 +1,6 @@
 -- `fields::numbers::tenths` meets its contract. Assumes nothing.
 use Rattle.fields.proofs.Justified.{tenths-digit, tenths-none, tenths-some}
 use Rattle.fields.specs.Paper.{number}
-use Rattle.rules.specs.Numbers.{then}
 use borrow.Author.Tests.{not-false, not-true}
 use mathlib.Core.Path.{_∙_}
 use borrow.Author.Needs.{needs}
@@ -25,7 +24,9 @@ sub-then-2 : tie.Need-sub-then-2
 sub-then-2 c = tenths-digit _ _ (number (c .before .before .before .args .n)) _ (c .before .before .point-digit .ensures) (not-false _ (c .before .if1 .left)) .0
 
 then-requires : tie.Need-then-requires
-then-requires c κs = let h = tenths-digit _ _ (number (c .before .before .before .args .n)) _ (c .before .before .point-digit .ensures) (not-false _ (c .before .if1 .left)) in (c .before .before .before .pre .1 .1, omega arith)
+then-requires c κs =
+    let h = tenths-digit _ _ (number (c .before .before .before .args .n)) _ (c .before .before .point-digit .ensures) (not-false _ (c .before .if1 .left)) in
+    (c .before .before .before .pre .1 .1, omega arith)
 
 returns-2 : tie.Need-returns-2
 returns-2 c = c .then .ensures ∙ tenths-some _ _ _ _ (c .before .before .before .point-digit .ensures) (not-false _ (c .before .before .if1 .left))

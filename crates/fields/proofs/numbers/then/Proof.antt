@@ -1,9 +1,8 @@
 -- `fields::numbers::then` meets its contract. Assumes nothing.
 use Prim.Native.Nat.{_*_, _+_, ℕ}
 use Rattle.fields.proofs.Signs.{size-minus, size-plus}
-use Rattle.fields.specs.Paper.{number, wide}
+use Rattle.fields.specs.Paper.{number}
 use Rattle.fields.specs.declared.Number.{Number}
-use Rattle.rules.proofs.Traces.{given}
 use Rattle.rules.specs.Numbers.{minus, plus, then}
 use mathlib.Core.Path.{_∙_, ap, sym}
 use borrow.Author.Needs.{needs}
@@ -18,25 +17,35 @@ enum-known-n : tie.Need-enum-known-n
 enum-known-n c = search needs
 
 mul-t6 : tie.Need-mul-t6
-mul-t6 c = let h = size-plus _ _ _ (c .before .n .given .1) (c .before .before .before .pre .0) in omega arith
+mul-t6 c =
+    let h = size-plus _ _ _ (c .before .n .given .1) (c .before .before .before .pre .0) in
+    omega arith
 
 wide-requires : tie.Need-wide-requires
 wide-requires c κs = search needs
 
 add-t8 : tie.Need-add-t8
-add-t8 c = let h = size-plus _ _ _ (c .before .before .n .given .1) (c .before .before .before .before .pre .0) in let w = c .wide .ensures in omega arith
+add-t8 c =
+    let h = size-plus _ _ _ (c .before .before .n .given .1) (c .before .before .before .before .pre .0) in
+    let w = c .wide .ensures in
+    omega arith
 
 enum-known-n-2 : tie.Need-enum-known-n-2
 enum-known-n-2 c = search needs
 
 mul-t9 : tie.Need-mul-t9
-mul-t9 c = let h = size-minus _ _ _ (c .before .n2 .given .1) (c .before .before .before .pre .0) in omega arith
+mul-t9 c =
+    let h = size-minus _ _ _ (c .before .n2 .given .1) (c .before .before .before .pre .0) in
+    omega arith
 
 wide-requires-2 : tie.Need-wide-requires-2
 wide-requires-2 c κs = search needs
 
 add-t11 : tie.Need-add-t11
-add-t11 c = let h = size-minus _ _ _ (c .before .before .n2 .given .1) (c .before .before .before .before .pre .0) in let w = c .wide2 .ensures in omega arith
+add-t11 c =
+    let h = size-minus _ _ _ (c .before .before .n2 .given .1) (c .before .before .before .before .pre .0) in
+    let w = c .wide2 .ensures in
+    omega arith
 
 returns : tie.Need-returns
 unfolding then

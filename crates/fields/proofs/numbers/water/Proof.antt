@@ -3,7 +3,7 @@ use Rattle.fields.proofs.Codes.{water-metres, water-none, water-tenths}
 use Rattle.fields.proofs.Justified.{few}
 use Rattle.rules.proofs.Sizes.{whole-small}
 use Rattle.rules.specs.Kinds.{between}
-use Rattle.rules.specs.Numbers.{Number, decimal, then, whole}
+use Rattle.rules.specs.Numbers.{Number, then}
 use mathlib.Core.Path.{_∙_, ap, sym}
 use borrow.Author.Needs.{needs}
 use native.Mathlib.Omega.{arith}
@@ -26,18 +26,18 @@ between-requires-2 : tie.Need-between-requires-2
 between-requires-2 c κs = search needs
 
 then-requires : tie.Need-then-requires
-then-requires c κs = 
+then-requires c κs =
     let a = c .before .before .before .before .before .before .args in
     (rw (c .before .before .whole .ensures) (few _ _ (a .a) (a .b) (omega arith) (omega arith) (whole-small _)), omega arith)
 
 returns-2 : tie.Need-returns-2
-returns-2 c = 
+returns-2 c =
     let b = c .before .before .before .before in
     c .then .ensures ∙ ap (λ (n : Number). then n 0) (c .before .before .before .whole .ensures)
     ∙ water-metres _ (sym (b .before .between .ensures ∙ ap (between 0 999) (b .before .before .decimal .ensures)) ∙ b .if1 .left) (sym (c .before .before .between2 .ensures ∙ ap (between 0 999) (c .before .before .before .whole .ensures)) ∙ c .before .if2 .taken)
 
 returns-3 : tie.Need-returns-3
-returns-3 c = 
+returns-3 c =
     let b = c .before .before .before in
     water-none _ (sym (b .before .between .ensures ∙ ap (between 0 999) (b .before .before .decimal .ensures)) ∙ b .if1 .left) (sym (c .before .between2 .ensures ∙ ap (between 0 999) (c .before .before .whole .ensures)) ∙ c .if2 .left)
 

@@ -1,7 +1,6 @@
 -- `fields::ranges::between` meets its contract. Assumes nothing.
 use Rattle.fields.specs.Paper.{number}
 use Rattle.fields.specs.declared.Number.{Number}
-use Rattle.rules.proofs.Traces.{given}
 use Rattle.rules.specs.Kinds.{between}
 use borrow.Author.Tests.{le-leb, lt-leb}
 use mathlib.Core.Path.{_∙_, ap, sym}

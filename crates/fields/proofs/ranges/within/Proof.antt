@@ -1,7 +1,6 @@
 -- `fields::ranges::within` meets its contract. Assumes nothing.
 use Rattle.fields.specs.Paper.{number}
 use Rattle.fields.specs.declared.Number.{Number}
-use Rattle.rules.proofs.Traces.{given}
 use Rattle.rules.specs.Kinds.{within}
 use mathlib.Core.Path.{ap, sym}
 use borrow.Author.Needs.{needs}

@@ -3,12 +3,9 @@ use Prim.Native.Nat.{_-_, _<_, _≤_}
 use Rattle.fields.proofs.Widths.{sized-is}
 use Rattle.records.proofs.Rows.{rows-end, rows-step, rows-stop}
 use Rattle.records.specs.Coded.{rowOf, rowsOf}
-use Rattle.rules.proofs.Disc.{row-at}
 use Rattle.rules.specs.Form.{fieldsFit}
-use Rattle.rules.specs.Layout.{at}
 use Rattle.rules.specs.Plan.{run}
 use borrow.Author.Tests.{not-false, not-true}
-use denote.Ref.{now}
 use lib.ListN.{drop, length}
 use mathlib.Core.Path.{_≡_, refl}
 use borrow.Author.Needs.{needs}
@@ -29,7 +26,10 @@ loop-holds : tie.Need-loop-holds Inv-loop μ-loop
 loop-holds c = (omega arith, refl)
 
 row-at-requires : tie.Need-row-at-requires Inv-loop μ-loop
-row-at-requires c κs = let e = c .before .before .row-count .ensures in let h : c .before .loop .j < length (rowsOf (c .before .before .before .args .t)) = omega arith in h
+row-at-requires c κs =
+    let e = c .before .before .row-count .ensures in
+    let h : c .before .loop .j < length (rowsOf (c .before .before .before .args .t)) = omega arith in
+    h
 
 row-fits-requires : tie.Need-row-fits-requires Inv-loop μ-loop
 row-fits-requires c κs = c .row-at .ensures .1
@@ -41,7 +41,7 @@ cast-t12 : tie.Need-cast-t12 Inv-loop μ-loop
 cast-t12 c = let h = sized-is _ _ _ (c .before .before .before .row-at .ensures .1) in omega arith
 
 returns : tie.Need-returns Inv-loop μ-loop
-returns c = 
+returns c =
     let at = c .before .before .before .before .before .loop in
     let a = c .before .before .before .before .before .before .before .args in
     let n = c .before .before .before .before .before .before .row-count .ensures in
@@ -56,17 +56,18 @@ loop-less : tie.Need-loop-less Inv-loop μ-loop
 loop-less c = search needs
 
 loop-again : tie.Need-loop-again Inv-loop μ-loop
-loop-again c = 
+loop-again c =
     let at = c .before .before .before .before .loop in
     let a = c .before .before .before .before .before .before .args in
     let n = c .before .before .before .before .before .row-count .ensures in
-    let w = c .before .before .row-at in
-    (omega arith,
-    rows-step (a .i) (a .k) (a .marker) (a .l .now) (rowsOf (a .t)) (at .j) _ (at .inv .1) (omega arith) (rowOf (w .result)) (w .ensures .0) _
-    (c .before .row-fits .ensures) (not-false _ (c .if1 .left)))
+    let w = c .before .before .row-at in (
+      omega arith,
+      rows-step (a .i) (a .k) (a .marker) (a .l .now) (rowsOf (a .t)) (at .j) _ (at .inv .1) (omega arith) (rowOf (w .result)) (w .ensures .0) _
+          (c .before .row-fits .ensures) (not-false _ (c .if1 .left)),
+    )
 
 returns-2 : tie.Need-returns-2 Inv-loop μ-loop
-returns-2 c = 
+returns-2 c =
     let at = c .before .loop in
     let a = c .before .before .before .args in
     let n = c .before .before .row-count .ensures in

@@ -4,7 +4,6 @@ use Rattle.fields.proofs.Codes.{two-columns}
 use Rattle.rules.specs.Layout.{at, sps93}
 use Rattle.rules.specs.Lines.{isMarker}
 use Rattle.rules.specs.Text.{bytes, same}
-use denote.Ref.{now}
 use lib.Dec.{lit≤}
 use mathlib.Core.List.{List}
 use mathlib.Core.Path.{_∙_, ap, sym}

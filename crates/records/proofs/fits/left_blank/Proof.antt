@@ -1,5 +1,4 @@
 -- `records::fits::left_blank` meets its contract. Assumes nothing.
-use Rattle.rules.specs.Text.{blank}
 use borrow.Author.Tests.{not-false, not-true}
 use borrow.Author.Needs.{needs}
 use Rattle.records.proofs.fits.left_blank.Statement.{statement}

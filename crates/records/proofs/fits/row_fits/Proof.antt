@@ -16,7 +16,7 @@ left-blank-requires : tie.Need-left-blank-requires
 left-blank-requires c κs = let h = sized-is _ _ _ (c .before .before .pre) in (h .0, h .1 .1 .0)
 
 returns-2 : tie.Need-returns-2
-returns-2 c = 
+returns-2 c =
     let b = c .before .before in
     row-blank _ _ (b .before .before .args .w) _ (b .before .spared .ensures) (b .if1 .left) _ (c .before .left-blank .ensures) (c .if2 .taken)
 
@@ -24,7 +24,7 @@ fits-requires : tie.Need-fits-requires
 fits-requires c κs = sized-is _ _ _ (c .before .before .before .before .pre)
 
 returns-3 : tie.Need-returns-3
-returns-3 c = 
+returns-3 c =
     let d = c .before in
     let b = d .before .before in
     c .fits2 .ensures

@@ -5,7 +5,6 @@ use Rattle.rules.specs.Form.{fieldsFit}
 use Rattle.rules.specs.Layout.{sps93}
 use Rattle.rules.specs.Plan.{run}
 use Rattle.rules.specs.Rows.{pointRows}
-use denote.Ref.{now}
 use mathlib.Core.Bool.{Bool}
 use mathlib.Core.Path.{_∙_, ap}
 use borrow.Author.Needs.{needs}
@@ -37,7 +36,7 @@ fields-fit-requires-3 c κs = search needs
 
 returns-3 : tie.Need-returns-3
 unfolding rowsOf
-returns-3 c = 
+returns-3 c =
     let d = c .before in
     let a = d .before .before .before .before .args in
     five-point _ _ _ _ _ (d .before .before .before .is-header .ensures) (d .before .before .if1 .left) (d .before .if2 .left)

@@ -2,7 +2,6 @@
 use Rattle.records.proofs.Six.{last-small, six-channels, six-count, six-fine, six-multiple, six-receivers, step-is, upto-small}
 use Rattle.rules.specs.Layout.{sps93}
 use Rattle.rules.specs.Relations.{reach}
-use denote.Ref.{now}
 use borrow.Author.Needs.{needs}
 use native.Mathlib.Omega.{arith}
 use Rattle.records.proofs.fits.rule6.Statement.{statement}
@@ -30,7 +29,10 @@ sub-n : tie.Need-sub-n
 sub-n c = search needs
 
 rem-if3 : tie.Need-rem-if3
-rem-if3 c = let e = step-is 0 (reach sps93 (c .before .before .before .before .before .before .before .args .l .now)) _ (c .before .before .before .before .before .before .reach-of .ensures) in let h = c .before .before .before .before .before .before .before .pre .1 in omega arith
+rem-if3 c =
+    let e = step-is 0 (reach sps93 (c .before .before .before .before .before .before .before .args .l .now)) _ (c .before .before .before .before .before .before .reach-of .ensures) in
+    let h = c .before .before .before .before .before .before .before .pre .1 in
+    omega arith
 
 add-t10 : tie.Need-add-t10
 add-t10 c = search needs
@@ -39,7 +41,10 @@ returns-3 : tie.Need-returns-3
 returns-3 c = six-multiple _ (reach sps93 (c .before .before .before .before .before .before .before .before .args .l .now)) _ (c .before .before .before .before .before .before .before .reach-of .ensures) (c .before .before .before .before .before .if1 .left) (c .before .before .before .if2 .left) (c .if3 .taken)
 
 div-if4 : tie.Need-div-if4
-div-if4 c = let e = step-is 0 (reach sps93 (c .before .before .before .before .before .before .before .before .args .l .now)) _ (c .before .before .before .before .before .before .before .reach-of .ensures) in let h = c .before .before .before .before .before .before .before .before .pre .1 in omega arith
+div-if4 c =
+    let e = step-is 0 (reach sps93 (c .before .before .before .before .before .before .before .before .args .l .now)) _ (c .before .before .before .before .before .before .before .reach-of .ensures) in
+    let h = c .before .before .before .before .before .before .before .before .pre .1 in
+    omega arith
 
 add-if4 : tie.Need-add-if4
 add-if4 c = omega (arith, last-small (c .before .before .before .before .before .before .before .before .before .args .l .now) _ (c .before .before .before .before .before .before .before .before .reach-of .ensures))

@@ -1,5 +1,4 @@
 -- `records::fits::spared` meets its contract. Assumes nothing.
-use Rattle.rules.specs.Rows.{free}
 use borrow.Author.Tests.{not-false, not-true}
 use Rattle.records.proofs.fits.spared.Statement.{statement}
 use Rattle.records.proofs.fits.spared.Tie as tie

@@ -2,8 +2,6 @@
 use mir.Syntax.{w64}
 use mir.ValLaws.{toZ-ofZ}
 use Rattle.records.specs.declared.point.Held.the-variants.{Value}
-use Rattle.rules.specs.Numbers.{value}
-use Rattle.rules.specs.Text.{blank}
 use mathlib.Core.Path.{_∙_, ap, sym}
 use borrow.Author.Needs.{needs}
 use Rattle.records.proofs.point.held_at.Statement.{statement}

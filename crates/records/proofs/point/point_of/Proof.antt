@@ -8,10 +8,9 @@ use Rattle.records.specs.Coded.{heldOf}
 use Rattle.rules.proofs.Sizes.{decimal-small, signed-small, whole-small}
 use Rattle.rules.specs.Kinds.{code, index, time, water}
 use Rattle.rules.specs.Layout.{at, sps93}
-use Rattle.rules.specs.Numbers.{Number, decimal, signed, value, whole}
+use Rattle.rules.specs.Numbers.{Number, signed, value, whole}
 use Rattle.rules.specs.Points.{holds, indexAt, nameOf, numberOf, point}
 use Rattle.rules.specs.Text.{blank, cols}
-use denote.Ref.{now}
 use lib.Dec.{lit≤}
 use mathlib.Core.Path.{_∙_, ap}
 use borrow.Author.Needs.{needs}
@@ -86,7 +85,7 @@ number-at-requires-3 c κs = search needs
 
 returns : tie.Need-returns
 unfolding point sps93 numberOf indexAt nameOf at holds
-returns c = 
+returns c =
     let l = c .before .before .before .before .before .before .before .before .before .before .before .before .before .before .before .before .before .before .before .before .before .before .args .l .now in
     let p-name = c .before .before .before .before .before .before .before .before .before .before .before .before .before .before .before .before .before .before .before .before .before .name .ensures in
     let p-number = c .before .before .before .before .before .before .before .before .before .before .before .before .before .before .number-at .ensures in
@@ -103,22 +102,22 @@ returns c =
     let p-day = c .before .number-at2 .ensures in
     let p-time = c .number-at3 .ensures in
     λ i.
-      record {
-        name = p-name i;
-        number = p-number i;
-        index = p-index i;
-        code = p-code i;
-        fixed = p-fixed i;
-        depth = p-depth i;
-        datum = p-datum i;
-        uphole = p-uphole i;
-        water = p-water i;
-        easting = p-easting i;
-        northing = p-northing i;
-        elevation = p-elevation i;
-        day = p-day i;
-        time = p-time i
-      }
+    record {
+      name = p-name i;
+      number = p-number i;
+      index = p-index i;
+      code = p-code i;
+      fixed = p-fixed i;
+      depth = p-depth i;
+      datum = p-datum i;
+      uphole = p-uphole i;
+      water = p-water i;
+      easting = p-easting i;
+      northing = p-northing i;
+      elevation = p-elevation i;
+      day = p-day i;
+      time = p-time i;
+    }
 
 pub point-of-spec : {M : Type 1} → statement M
 point-of-spec =

@@ -3,7 +3,6 @@ use Rattle.records.proofs.Sizes.{below}
 use Rattle.rules.proofs.Sizes.{whole-small}
 use Rattle.rules.specs.Numbers.{size, whole}
 use Rattle.rules.specs.Text.{cols}
-use denote.Ref.{now}
 use mathlib.Core.Path.{_∙_, ap}
 use borrow.Author.Needs.{needs}
 use native.Mathlib.Omega.{arith}
@@ -17,7 +16,7 @@ size-requires : tie.Need-size-requires
 size-requires c κs = search needs
 
 cast-result : tie.Need-cast-result
-cast-result c = 
+cast-result c =
     let a = c .before .before .args in
     let e = c .size .ensures ∙ ap size (c .before .whole .ensures) in
     let h = below 8 (whole (cols (a .l .now) (a .a) (a .b))) (a .l .now) (a .a) (a .b) (omega arith) (omega arith) (whole-small _) in

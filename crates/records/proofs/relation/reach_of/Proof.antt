@@ -36,19 +36,19 @@ index-at-requires-2 c κs = search needs
 
 returns : tie.Need-returns
 unfolding reach sps93 numberOf indexAt nameOf at
-returns c = 
+returns c =
     λ i.
-      record {
-        tape = c .before .before .before .before .before .before .before .pack .ensures i;
-        number = c .before .before .before .before .before .before .number-at .ensures i;
-        from = c .before .before .before .before .before .number-at2 .ensures i;
-        upto = c .before .before .before .before .number-at3 .ensures i;
-        step = c .before .before .before .index-at .ensures i;
-        receiver = c .before .before .before .before .before .before .before .before .name .ensures i;
-        «from_receiver» = c .before .before .number-at4 .ensures i;
-        «to_receiver» = c .before .number-at5 .ensures i;
-        «receiver_index» = c .index-at2 .ensures i
-      }
+    record {
+      tape = c .before .before .before .before .before .before .before .pack .ensures i;
+      number = c .before .before .before .before .before .before .number-at .ensures i;
+      from = c .before .before .before .before .before .number-at2 .ensures i;
+      upto = c .before .before .before .before .number-at3 .ensures i;
+      step = c .before .before .before .index-at .ensures i;
+      receiver = c .before .before .before .before .before .before .before .before .name .ensures i;
+      «from_receiver» = c .before .before .number-at4 .ensures i;
+      «to_receiver» = c .before .number-at5 .ensures i;
+      «receiver_index» = c .index-at2 .ensures i;
+    }
 
 pub reach-of-spec : {M : Type 1} → statement M
 reach-of-spec =

@@ -26,16 +26,16 @@ index-at-requires-3 c κs = search needs
 
 returns : tie.Need-returns
 unfolding relation reach sps93 numberOf indexAt nameOf at
-returns c = 
+returns c =
     λ i.
-      record {
-        increment = c .before .before .before .index-at .ensures i;
-        instrument = c .before .before .index-at2 .ensures i;
-        source = c .before .before .before .before .before .name .ensures i;
-        shot = c .before .number-at .ensures i;
-        «shot_index» = c .index-at3 .ensures i;
-        reach = c .before .before .before .before .reach-of .ensures i
-      }
+    record {
+      increment = c .before .before .before .index-at .ensures i;
+      instrument = c .before .before .index-at2 .ensures i;
+      source = c .before .before .before .before .before .name .ensures i;
+      shot = c .before .number-at .ensures i;
+      «shot_index» = c .index-at3 .ensures i;
+      reach = c .before .before .before .before .reach-of .ensures i;
+    }
 
 pub relation-of-spec : {M : Type 1} → statement M
 relation-of-spec =

@@ -2,7 +2,6 @@
 use Prim.Native.Nat.{_<_}
 use Rattle.records.specs.Coded.{noRow, rowsOf}
 use Rattle.records.specs.declared.table.Table.{Table}
-use Rattle.rules.proofs.Traces.{given}
 use Rattle.rules.specs.Rows.{headerRows, pointRows, relationRows}
 use lib.ListN.{getD, length}
 use mathlib.Core.Path.{_∙_, ap, subst, sym}
@@ -33,15 +32,21 @@ relation-row-requires c κs = subst (λ (t : Table). c .before .before .args .j 
 
 returns : tie.Need-returns
 unfolding rowsOf
-returns c = let e = c .header-row .ensures in (e .0 ∙ sym (ap (λ (t : Table). getD (rowsOf t) (c .before .before .before .args .j) noRow) (c .before .enum-told .given .1)), e .1)
+returns c =
+    let e = c .header-row .ensures in
+    (e .0 ∙ sym (ap (λ (t : Table). getD (rowsOf t) (c .before .before .before .args .j) noRow) (c .before .enum-told .given .1)), e .1)
 
 returns-2 : tie.Need-returns-2
 unfolding rowsOf
-returns-2 c = let e = c .point-row .ensures in (e .0 ∙ sym (ap (λ (t : Table). getD (rowsOf t) (c .before .before .before .before .args .j) noRow) (c .before .before .t .given .1)), e .1)
+returns-2 c =
+    let e = c .point-row .ensures in
+    (e .0 ∙ sym (ap (λ (t : Table). getD (rowsOf t) (c .before .before .before .before .args .j) noRow) (c .before .before .t .given .1)), e .1)
 
 returns-3 : tie.Need-returns-3
 unfolding rowsOf
-returns-3 c = let e = c .relation-row .ensures in (e .0 ∙ sym (ap (λ (t : Table). getD (rowsOf t) (c .before .before .before .args .j) noRow) (c .before .enum-told2 .given .1)), e .1)
+returns-3 c =
+    let e = c .relation-row .ensures in
+    (e .0 ∙ sym (ap (λ (t : Table). getD (rowsOf t) (c .before .before .before .args .j) noRow) (c .before .enum-told2 .given .1)), e .1)
 
 pub row-at-spec : {M : Type 1} → statement M
 row-at-spec =

@@ -1,7 +1,6 @@
 -- `records::table::row_count` meets its contract. Assumes nothing.
 use Rattle.records.specs.Coded.{rowsOf}
 use Rattle.records.specs.declared.table.Table.{Table}
-use Rattle.rules.proofs.Traces.{given}
 use Rattle.rules.specs.Rows.{headerRows, pointRows, relationRows}
 use lib.ListN.{length}
 use mathlib.Core.Path.{ap, sym}

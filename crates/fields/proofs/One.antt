@@ -1,0 +1,132 @@
+-- The contracts of this crate leave one outcome: for every public function, any two results that meet its contract are the same.
+use mathlib.Core.Path.{_≡_, refl, sym, ap, _∙_}
+use Rattle.outcome.specs.One.{One}
+use Rattle.fields.proofs.bytes.blank as blank
+use Rattle.fields.proofs.bytes.blank.Reads as blank-reads
+use Rattle.fields.proofs.bytes.all_digits as all-digits
+use Rattle.fields.proofs.bytes.all_digits.Reads as all-digits-reads
+use Rattle.fields.proofs.bytes.index_fits as index-fits
+use Rattle.fields.proofs.bytes.index_fits.Reads as index-fits-reads
+use Rattle.fields.proofs.bytes.index_of as index-of
+use Rattle.fields.proofs.bytes.index_of.Reads as index-of-reads
+use Rattle.fields.proofs.bytes.time as time
+use Rattle.fields.proofs.bytes.time.Reads as time-reads
+use Rattle.fields.proofs.bytes.two as two
+use Rattle.fields.proofs.bytes.two.Reads as two-reads
+use Rattle.fields.proofs.bytes.code as code
+use Rattle.fields.proofs.bytes.code.Reads as code-reads
+use Rattle.fields.proofs.numbers.digits as digits
+use Rattle.fields.proofs.numbers.digits.Reads as digits-reads
+use Rattle.fields.proofs.numbers.whole as whole
+use Rattle.fields.proofs.numbers.whole.Reads as whole-reads
+use Rattle.fields.proofs.numbers.signed as signed
+use Rattle.fields.proofs.numbers.signed.Reads as signed-reads
+use Rattle.fields.proofs.numbers.decimal as decimal
+use Rattle.fields.proofs.numbers.decimal.Reads as decimal-reads
+use Rattle.fields.proofs.numbers.signed_decimal as signed-decimal
+use Rattle.fields.proofs.numbers.signed_decimal.Reads as signed-decimal-reads
+use Rattle.fields.proofs.numbers.water as water
+use Rattle.fields.proofs.numbers.water.Reads as water-reads
+use Rattle.fields.proofs.ranges.between as between
+use Rattle.fields.proofs.ranges.between.Reads as between-reads
+use Rattle.fields.proofs.ranges.within as within
+use Rattle.fields.proofs.ranges.within.Reads as within-reads
+use Rattle.fields.proofs.ranges.formed as formed
+use Rattle.fields.proofs.ranges.formed.Reads as formed-reads
+use Rattle.fields.proofs.ranges.size as size
+use Rattle.fields.proofs.ranges.size.Reads as size-reads
+use Rattle.fields.proofs.ranges.value as value
+use Rattle.fields.proofs.ranges.value.Reads as value-reads
+use Rattle.fields.proofs.names.pack as pack
+use Rattle.fields.proofs.names.pack.Reads as pack-reads
+use Rattle.fields.proofs.names.name as name
+use Rattle.fields.proofs.names.name.Reads as name-reads
+use Rattle.fields.proofs.names.same_name as same-name
+use Rattle.fields.proofs.names.same_name.Reads as same-name-reads
+use Rattle.fields.proofs.names.less_name as less-name
+use Rattle.fields.proofs.names.less_name.Reads as less-name-reads
+use Rattle.fields.proofs.fits as fits
+use Rattle.fields.proofs.fits.Reads as fits-reads
+use Rattle.fields.specs.Paper.{number}
+use Rattle.fields.specs.declared.Number.{Number}
+use Rattle.fields.specs.declared.Number.the-variants.{Malformed, Plus, Minus}
+
+pub number-one : (a b : Number) → number a ≡ number b → a ≡ b
+number-one Malformed Malformed e = refl
+number-one Malformed (Plus n) e = cc
+number-one Malformed (Minus n) e = cc
+number-one (Plus m) Malformed e = cc
+number-one (Plus m) (Plus n) e = cc
+number-one (Plus m) (Minus n) e = cc
+number-one (Minus m) Malformed e = cc
+number-one (Minus m) (Plus n) e = cc
+number-one (Minus m) (Minus n) e = cc
+
+pub blank-one : One blank.ended blank-reads.Post
+blank-one κs a v v′ w w′ p p′ = (p ∙ sym p′, refl)
+
+pub all-digits-one : One all-digits.ended all-digits-reads.Post
+all-digits-one κs a v v′ w w′ p p′ = (p ∙ sym p′, refl)
+
+pub index-fits-one : One index-fits.ended index-fits-reads.Post
+index-fits-one κs a v v′ w w′ p p′ = (p ∙ sym p′, refl)
+
+pub index-of-one : One index-of.ended index-of-reads.Post
+index-of-one κs a v v′ w w′ p p′ = (p ∙ sym p′, refl)
+
+pub time-one : One time.ended time-reads.Post
+time-one κs a v v′ w w′ p p′ = (p ∙ sym p′, refl)
+
+pub two-one : One two.ended two-reads.Post
+two-one κs a v v′ w w′ p p′ = (p ∙ sym p′, refl)
+
+pub code-one : One code.ended code-reads.Post
+code-one κs a v v′ w w′ p p′ = (p ∙ sym p′, refl)
+
+pub digits-one : One digits.ended digits-reads.Post
+digits-one κs a v v′ w w′ p p′ = (number-one v v′ (p ∙ sym p′), refl)
+
+pub whole-one : One whole.ended whole-reads.Post
+whole-one κs a v v′ w w′ p p′ = (number-one v v′ (p ∙ sym p′), refl)
+
+pub signed-one : One signed.ended signed-reads.Post
+signed-one κs a v v′ w w′ p p′ = (number-one v v′ (p ∙ sym p′), refl)
+
+pub decimal-one : One decimal.ended decimal-reads.Post
+decimal-one κs a v v′ w w′ p p′ = (number-one v v′ (p ∙ sym p′), refl)
+
+pub signed-decimal-one : One signed-decimal.ended signed-decimal-reads.Post
+signed-decimal-one κs a v v′ w w′ p p′ = (number-one v v′ (p ∙ sym p′), refl)
+
+pub water-one : One water.ended water-reads.Post
+water-one κs a v v′ w w′ p p′ = (number-one v v′ (p ∙ sym p′), refl)
+
+pub between-one : One between.ended between-reads.Post
+between-one κs a v v′ w w′ p p′ = (p ∙ sym p′, refl)
+
+pub within-one : One within.ended within-reads.Post
+within-one κs a v v′ w w′ p p′ = (p ∙ sym p′, refl)
+
+pub formed-one : One formed.ended formed-reads.Post
+formed-one κs a v v′ w w′ p p′ = (p ∙ sym p′, refl)
+
+pub size-one : One size.ended size-reads.Post
+size-one κs a v v′ w w′ p p′ = (p ∙ sym p′, refl)
+
+pub value-one : One value.ended value-reads.Post
+value-one κs a v v′ w w′ p p′ = (p ∙ sym p′, refl)
+
+pub pack-one : One pack.ended pack-reads.Post
+pack-one κs a v v′ w w′ p p′ = (p ∙ sym p′, refl)
+
+pub name-one : One name.ended name-reads.Post
+name-one κs a v v′ w w′ p p′ = (p ∙ sym p′, refl)
+
+pub same-name-one : One same-name.ended same-name-reads.Post
+same-name-one κs a v v′ w w′ p p′ = (p ∙ sym p′, refl)
+
+pub less-name-one : One less-name.ended less-name-reads.Post
+less-name-one κs a v v′ w w′ p p′ = (p ∙ sym p′, refl)
+
+pub fits-one : One fits.ended fits-reads.Post
+fits-one κs a v v′ w w′ p p′ = (p ∙ sym p′, refl)
