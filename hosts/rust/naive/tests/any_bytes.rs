@@ -2,32 +2,8 @@
 //! its rule can name.
 
 use naive::{channel, check, show, spread, trace, File, Refusal};
-use small_sets::{set_a, Line, Set};
+use small_sets::{set_a, Line, Random, Set};
 use std::collections::BTreeSet;
-
-/// A small xorshift generator.
-struct Random(u64);
-
-impl Random {
-    fn next(&mut self) -> u64 {
-        self.0 ^= self.0 << 13;
-        self.0 ^= self.0 >> 7;
-        self.0 ^= self.0 << 17;
-        self.0
-    }
-
-    fn below(&mut self, bound: usize) -> usize {
-        (self.next() % bound as u64) as usize
-    }
-
-    fn one_of(&mut self, bytes: &[u8]) -> u8 {
-        bytes[self.below(bytes.len())]
-    }
-
-    fn bytes(&mut self, length: usize) -> Vec<u8> {
-        (0..length).map(|_| self.next() as u8).collect()
-    }
-}
 
 const FILES: [small_sets::File; 3] = small_sets::File::ALL;
 
@@ -98,7 +74,7 @@ fn ask(set: &Set) {
 
 #[test]
 fn random_bytes() {
-    let mut random = Random(0x5eed_0001);
+    let mut random = Random::new(0x5eed_0001);
     for turn in 0..2_000 {
         let mut length = || match turn % 3 {
             0 => random.below(200),
@@ -109,7 +85,7 @@ fn random_bytes() {
         let [r, s, x] = lengths.map(|length| random.bytes(length));
         let set = Set { r, s, x };
         hold(&set, check(&set.r, &set.s, &set.x).expect_err("no header"));
-        let letter = random.one_of(b"RSXH\0");
+        let letter = random.pick(b"RSXH\0");
         let shown = show(&set.r, &set.s, letter, random.below(30));
         assert!(shown.is_empty() || shown.len() == 80);
     }
@@ -166,14 +142,14 @@ fn damage(set: Set, random: &mut Random) -> Set {
         let columns = set.file(file)[start..start + 80].try_into();
         return set.add(file, Line(columns.expect("80 columns")));
     }
-    let byte = random.one_of(b"  0123459.-GVPMKL");
+    let byte = random.pick(b"  0123459.-GVPMKL");
     set.byte(file, line, 1 + random.below(80), byte)
 }
 
 /// Set A damaged one to four times; accepted sets and all these refusals turn up.
 #[test]
 fn random_damage() {
-    let mut random = Random(0x5eed_0002);
+    let mut random = Random::new(0x5eed_0002);
     let a = set_a();
     let mut accepted = 0;
     let mut numbers = BTreeSet::new();

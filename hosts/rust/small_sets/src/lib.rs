@@ -9,11 +9,13 @@
 mod case;
 mod examples;
 mod line;
+mod random;
 mod set;
 mod table;
 
 pub use case::{Answer, Case, Question, STAYS};
 pub use examples::{examples, Example};
 pub use line::{header, marker, receiver, relation, shot, Line};
+pub use random::Random;
 pub use set::{headers_only, set_a, File, Set};
 pub use table::{table, Section, SECTIONS};
