@@ -1,11 +1,9 @@
 -- A number after its blanks, and a decimal by its last two columns.
-use Prim.Native.Nat.{ℕ, zero, suc, _+_, _-_, _*_, _^_, _≤_, _<_}
-use native.Mathlib.Nat.{add-zero, pow-suc, one-le-pow, pow-le-pow-right, le-trans}
+use Prim.Native.Nat.{ℕ, zero, suc, _+_, _-_, _^_, _≤_, _<_}
 use native.Mathlib.Numerals.{add-one}
 use native.Mathlib.Omega.{arith}
-use mathlib.Core.Path.{_≡_, refl, sym, ap, ap₂, _∙_, subst}
-use mathlib.Core.Logic.{_⊎_, inl, inr, ⊎-elim}
-use mathlib.Core.Bool.{Bool, true, false, _&&_}
+use mathlib.Core.Path.{_≡_, refl, sym, ap, _∙_}
+use mathlib.Core.Bool.{Bool, true, false}
 use mathlib.Core.List.{List, [], _∷_}
 use lib.Dec.{eqb, leb}
 use lib.ListN.{length, getD, take}
@@ -14,7 +12,7 @@ use Rattle.rules.proofs.Tests.{says}
 use Rattle.rules.proofs.Sizes.{Small, small-more}
 use Rattle.rules.specs.Places.{pick}
 use Rattle.rules.specs.Text.{col, cols}
-use Rattle.rules.specs.Numbers.{digit, Number, malformed, plus, minus, digitsAfter, digits, justified, whole, negative, minusOr, signed, then, decimal, size}
+use Rattle.rules.specs.Numbers.{digit, Number, malformed, digits, justified, whole, negative, minusOr, signed, then, decimal, size}
 use Rattle.rules.proofs.Columns.{cols-end, cols-step, cols-length, cols-at, cols-take}
 use Rattle.fields.specs.Ink.{inkFrom, pointDigit, tenthsOf}
 

@@ -1,5 +1,5 @@
 -- The contracts of this crate leave one outcome: for every public function, any two results that meet its contract are the same.
-use mathlib.Core.Path.{_≡_, refl, sym, ap, _∙_}
+use mathlib.Core.Path.{_≡_, refl, sym, _∙_}
 use Rattle.outcome.specs.One.{One}
 use Rattle.fields.proofs.bytes.blank as blank
 use Rattle.fields.proofs.bytes.blank.Reads as blank-reads

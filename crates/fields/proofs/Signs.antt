@@ -1,15 +1,15 @@
 -- A number's sign and size, as the code has them, and its signed value.
 use Prim.Native.Nat.{ℕ, zero, suc, _^_, _<_}
 use native.Mathlib.Omega.{arith}
-use mathlib.Core.Path.{_≡_, refl, sym, ap, _∙_, subst}
-use lib.IntN.{ℤ, pos, negsuc, negℤ, _-ℤ_, +ℤ-idl}
+use mathlib.Core.Path.{_≡_, subst}
+use lib.IntN.{pos, negℤ, _-ℤ_, +ℤ-idl}
 use mir.Syntax.{w64}
 use mir.Val.{SFits, toZ, ofZ}
 use mir.ValLaws.{toZ-pos, toZ-ofZ}
 use Rattle.rules.specs.Numbers.{size}
 use Rattle.fields.specs.Paper.{number}
 use Rattle.fields.specs.declared.Number.{Number}
-use Rattle.fields.specs.declared.Number.the-variants.{Malformed, Plus, Minus}
+use Rattle.fields.specs.declared.Number.the-variants.{Plus, Minus}
 
 pub size-plus : (n : Number) (v m : ℕ) → n ≡ Plus v → size (number n) < m → v < m
 unfolding size

@@ -1,6 +1,5 @@
 -- The number of columns that a rule asks for.
-use Prim.Native.Nat.{ℕ, _+_, _≤_}
-use native.Mathlib.Omega.{arith}
+use Prim.Native.Nat.{ℕ, _+_}
 use mathlib.Core.Path.{_≡_, subst}
 use mathlib.Core.Bool.{true}
 use borrow.Author.Tests.{eqb-true}

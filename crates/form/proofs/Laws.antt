@@ -2,14 +2,13 @@
 use Prim.Native.Nat.{ℕ, _+_, _≤_, _<_}
 use native.Mathlib.Numerals.{add-one}
 use native.Mathlib.Omega.{arith}
-use mathlib.Core.Path.{_≡_, refl, sym, ap, _∙_, subst}
+use mathlib.Core.Path.{_≡_, refl, sym, ap, _∙_}
 use mathlib.Core.Bool.{Bool, true, false, not, _&&_}
 use mathlib.Core.List.{List}
-use lib.Dec.{eqb}
 use lib.ListN.{getD}
 use borrow.Author.Tests.{eq-eqb, ne-eqb, leb-true}
 use Rattle.rules.specs.Places.{pick, every}
-use Rattle.rules.specs.Plan.{Verdict as PaperVerdict, fine, refused, №, _orElse_, Plan, need, _before_, run}
+use Rattle.rules.specs.Plan.{Verdict as PaperVerdict, fine, refused, №, _orElse_, Plan, _before_, run}
 use Rattle.rules.specs.Text.{col}
 use Rattle.rules.specs.Layout.{sps93}
 use Rattle.rules.specs.Sheet.{mostLines}
@@ -22,7 +21,7 @@ use Rattle.rules.proofs.Tests.{clash}
 use Rattle.rules.proofs.Breach.{run-met}
 use Rattle.rules.proofs.Form.{Header, header-is, rule5-is}
 use Rattle.rules.proofs.Accepted.{index-in}
-use Rattle.rules.proofs.Steps.{need-met, need-broken, before-met, before-broken, when-on, when-off, every-none, every-more, every-stop}
+use Rattle.rules.proofs.Steps.{need-met, need-broken, before-met, before-broken, when-on, when-off}
 use Rattle.lines.specs.declared.Verdict.{Verdict}
 use Rattle.lines.specs.declared.Verdict.the-variants.{Fine, Refused}
 use Rattle.lines.specs.Paper.{paper}

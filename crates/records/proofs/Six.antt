@@ -1,12 +1,12 @@
 -- 6 of a relation line, from the values that the code holds.
 use Prim.Native.Nat.{ℕ, _+_, _-_, _/_, _%_, _^_, _≤_, _<_}
 use native.Mathlib.Omega.{arith}
-use mathlib.Core.Path.{_≡_, refl, sym, ap, ap₂, _∙_}
+use mathlib.Core.Path.{_≡_, sym, ap, ap₂, _∙_}
 use mathlib.Core.Bool.{true}
 use mathlib.Core.List.{List}
 use lib.Dec.{leb, eqb, lit≤}
 use borrow.Author.Tests.{le-leb, lt-leb, eq-eqb, ne-eqb}
-use Rattle.rules.specs.Plan.{Verdict, fine, refused, №, run}
+use Rattle.rules.specs.Plan.{fine, refused, №, run}
 use Rattle.rules.specs.Layout.{sps93, at}
 use Rattle.rules.specs.Text.{cols}
 use Rattle.rules.specs.Numbers.{whole}

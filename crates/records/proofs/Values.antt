@@ -1,5 +1,5 @@
 -- Values as the code holds them: a signed number that comes back from its bits, and a field that may be blank.
-use mathlib.Core.Path.{_≡_, refl, ap, _∙_}
+use mathlib.Core.Path.{_≡_, refl}
 use mathlib.Core.Bool.{Bool, true, false}
 use lib.IntN.{ℤ}
 use Rattle.rules.specs.Places.{pick}

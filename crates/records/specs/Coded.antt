@@ -7,9 +7,8 @@
 use Prim.Native.Nat.{ℕ}
 use lib.IntN.{ℤ}
 use mathlib.Core.Bool.{Bool, true, false, _&&_, _||_}
-use mathlib.Core.List.{List, [], _∷_}
-use Rattle.rules.specs.Places.{pick}
-use Rattle.rules.specs.Layout.{Span, sps93, at}
+use mathlib.Core.List.{List}
+use Rattle.rules.specs.Layout.{sps93, at}
 use Rattle.rules.specs.Kinds.{Kind, startsNonBlank, mayBeBlank, fits}
 use Rattle.rules.specs.Points.{Held as PaperHeld, absent, held, Point as PaperPoint}
 use Rattle.rules.specs.Relations.{Reach as PaperReach, Relation as PaperRelation}

@@ -4,9 +4,9 @@
 --   Above rank v w   = v stands above w
 use Prim.Native.Nat.{ℕ, zero, suc, _+_, _≤_, _<_}
 use native.Mathlib.Omega.{arith}
-use mathlib.Core.Path.{_≡_, refl, sym, ap, _∙_, subst}
+use mathlib.Core.Path.{_≡_, refl, _∙_}
 use mathlib.Core.Logic.{_↔_, _⊎_, inl, inr, ⊎-elim}
-use mathlib.Core.Bool.{Bool, true, false, _&&_, _||_}
+use mathlib.Core.Bool.{Bool, true, _&&_, _||_}
 use mathlib.Core.List.{List, [], _∷_}
 use lib.Dec.{eqb, ltb}
 use borrow.Author.Tests.{ltb-true, lt-ltb, eqb-true, eq-eqb}
@@ -15,7 +15,7 @@ use Rattle.rules.specs.Text.{less}
 use Rattle.rules.specs.Names.{Name, text, sameName, ranked, lessName}
 use Rattle.rules.specs.Points.{Point}
 use Rattle.rules.specs.Order.{above}
-use Rattle.rules.proofs.Tests.{says, clash, and-is, or-is, eqb-is, ltb-is, same-name-is}
+use Rattle.rules.proofs.Tests.{clash, and-is, or-is, eqb-is, ltb-is, same-name-is}
 use Rattle.rules.proofs.Least.{least-is}
 
 abbrev pub Less : List ℕ → List ℕ → Type 0

@@ -1,17 +1,15 @@
 -- What an accepted set gives: sound relation lines, channels that rise within a record, receivers that are covered once and stand in one line.
-use Prim.Native.Nat.{ℕ, zero, suc, _+_, _≤_, _<_}
+use Prim.Native.Nat.{ℕ, zero, suc, _≤_, _<_}
 use native.Mathlib.Nat.{not-suc-le-zero}
 use native.Mathlib.Omega.{arith}
-use mathlib.Core.Path.{_≡_, refl, sym, ap, _∙_, subst}
-use mathlib.Core.Logic.{_↔_, _⊎_, inl, inr, ⊎-elim}
-use mathlib.Core.Bool.{Bool, true}
+use mathlib.Core.Path.{_≡_, refl, sym, _∙_, subst}
 use mathlib.Core.List.{List}
 use Rattle.rules.specs.Text.{col}
 use Rattle.rules.specs.Names.{Name}
 use Rattle.rules.specs.Layout.{Span, at}
 use Rattle.rules.specs.Sheet.{Sheet}
 use Rattle.rules.specs.Lines.{isPoint}
-use Rattle.rules.specs.Points.{Point as PointValues, pointAt, numberOf, indexAt}
+use Rattle.rules.specs.Points.{pointAt, numberOf, indexAt}
 use Rattle.rules.specs.Relations.{Reach, reach, reachAt}
 use Rattle.rules.specs.Rows.{relationRows}
 use Rattle.rules.specs.Order.{lineOfPoint, receiverLine}

@@ -3,21 +3,20 @@
 --   Rising l      = each is above the one before it
 --   total g l     = the sum of g over a list
 --   accepted-is   = the check accepts with four numbers exactly when Meets holds and they are those
-use Prim.Native.Nat.{ℕ, zero, suc, _+_, _≤_, _<_}
-use native.Mathlib.Nat.{lt-suc-self, not-suc-le-zero, add-zero, zero-add}
+use Prim.Native.Nat.{ℕ, zero, suc, _+_, _<_}
+use native.Mathlib.Nat.{not-suc-le-zero, add-zero, zero-add}
 use native.Mathlib.Omega.{arith}
-use mathlib.Core.Path.{_≡_, refl, sym, ap, ap₂, _∙_, subst}
-use mathlib.Core.Logic.{_↔_, _⊎_, inl, inr, ⊎-elim, Iff·trans, Iff·rfl}
+use mathlib.Core.Path.{_≡_, refl, sym, ap, ap₂, _∙_}
+use mathlib.Core.Logic.{_↔_, _⊎_, ⊎-elim}
 use mathlib.Core.Bool.{Bool, true, false}
 use mathlib.Core.List.{List, [], _∷_, _++_, List·Memᴰ, List·Memᴰ·head, Memᴰ·append-left, Memᴰ·append-right, List·Memᴰ·append-cases, List·Memᴰ·eq-of-singleton, List·Memᴰ·not-nil}
 use lib.ListN.{length, length-append}
 use Rattle.rules.specs.Places.{pick, count, sum}
-use Rattle.rules.specs.Plan.{Refusal, fine}
 use Rattle.rules.specs.Sheet.{Sheet}
 use Rattle.rules.specs.Lines.{isData, isPoint}
 use Rattle.rules.specs.Relations.{reachAt}
 use Rattle.rules.specs.Cover.{traces}
-use Rattle.rules.specs.Check.{Answer, accepted, refusal, verdict, points, relations, allTraces, check}
+use Rattle.rules.specs.Check.{accepted, verdict, points, relations, allTraces, check}
 use Rattle.rules.proofs.Tests.{clash, more}
 use Rattle.rules.proofs.Form.{Data, Point, data-is, point-is}
 use Rattle.rules.proofs.Meets.{Meets, verdict-meets}

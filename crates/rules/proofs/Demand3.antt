@@ -7,8 +7,8 @@
 --   lookup-none, back-none = what is not covered is answered "no trace"
 use Prim.Native.Nat.{ℕ, _+_, _-_, _≤_, _<_}
 use native.Mathlib.Omega.{arith}
-use mathlib.Core.Path.{_≡_, refl, sym, ap, _∙_}
-use mathlib.Core.Logic.{_↔_, _⊎_, inl, inr, ⊎-elim, Iff·trans, Iff·rfl}
+use mathlib.Core.Path.{_≡_, refl, sym, _∙_}
+use mathlib.Core.Logic.{_↔_, Iff·trans, Iff·rfl}
 use mathlib.Core.Bool.{Bool, true, _&&_}
 use mathlib.Core.List.{List}
 use lib.ListN.{length, getD}
@@ -21,11 +21,11 @@ use Rattle.rules.specs.Points.{pointAt}
 use Rattle.rules.specs.Relations.{reachAt}
 use Rattle.rules.specs.Cover.{leads, component}
 use Rattle.rules.specs.Order.{receiverLine}
-use Rattle.rules.specs.Check.{Answer, accepted, refusal, trace, channel, highest, noTrace, rules, verdict, answer}
+use Rattle.rules.specs.Check.{Answer, refusal, trace, channel, noTrace, rules, verdict, answer}
 use Rattle.rules.specs.Questions.{recordAsked, channelAsked, lineAsked, componentAsked, rule20}
 use Rattle.rules.specs.Lookup.{found, foundBack, lookup, wayBack}
 use Rattle.rules.proofs.Tests.{says}
-use Rattle.rules.proofs.Breach.{Met, run-met}
+use Rattle.rules.proofs.Breach.{run-met}
 use Rattle.rules.proofs.Fields.{kind-is}
 use Rattle.rules.proofs.Form.{Data}
 use Rattle.rules.proofs.Cover.{Carries, reached}

@@ -3,19 +3,18 @@
 --   row-at       = column c + 1 of line k is byte 82 * k + c of the file
 --   clean-is     = 3 of line k says that each of its bytes is proper
 --   askable      = the tapes and records of an accepted set can be asked for
-use Prim.Native.Nat.{ℕ, zero, suc, _+_, _-_, _*_, _/_, _%_, _≤_, _<_}
+use Prim.Native.Nat.{ℕ, zero, suc, _+_, _-_, _*_, _≤_, _<_}
 use native.Mathlib.Nat.{add-sub-cancel, not-suc-le-zero}
 use native.Mathlib.Omega.{arith}
-use mathlib.Core.Path.{_≡_, refl, sym, ap, _∙_, subst}
-use mathlib.Core.Logic.{_↔_, Iff·rfl, Iff·trans}
-use mathlib.Core.Bool.{Bool, true, false}
+use mathlib.Core.Path.{_≡_, refl, ap, _∙_, subst}
+use mathlib.Core.Logic.{_↔_, Iff·rfl}
+use mathlib.Core.Bool.{true}
 use mathlib.Core.List.{List, [], _∷_}
-use lib.Dec.{lit<, lit≤}
+use lib.Dec.{lit≤}
 use lib.ListN.{length, getD, take, drop, length-take, length-drop}
 use lib.Seq.{getD-take, getD-drop}
-use Rattle.rules.specs.Places.{pick}
 use Rattle.rules.specs.Text.{col, cols}
-use Rattle.rules.specs.Layout.{Layout, Span, sps93, at}
+use Rattle.rules.specs.Layout.{Layout, sps93, at}
 use Rattle.rules.specs.Sheet.{Sheet}
 use Rattle.rules.specs.Disc.{printable, byteFits, strayFrom, disc, file}
 use Rattle.rules.specs.Points.{numberOf}
@@ -24,7 +23,6 @@ use Rattle.rules.specs.Rows.{relationRows}
 use Rattle.rules.proofs.Tests.{says, yes-no, pick-is}
 use Rattle.rules.proofs.Columns.{cols-length, cols-at}
 use Rattle.rules.proofs.Fields.{whole-size}
-use Rattle.rules.proofs.Form.{Data}
 use Rattle.rules.proofs.Meets.{Meets}
 use Rattle.rules.proofs.Accepted.{fields}
 use Rattle.rules.proofs.Demand3.{Askable}

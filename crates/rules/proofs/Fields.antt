@@ -3,25 +3,25 @@
 --   Index b v      = the index in byte b has the value v
 --   Decimal, MinusDecimal bs n = n tenths, without and with a minus
 --   Reads k bs     = the bytes obey the rule k
-use Prim.Native.Nat.{ℕ, suc, _+_, _-_, _*_, _≤_}
+use Prim.Native.Nat.{ℕ, _-_, _≤_}
 use Prim.Native.String.{String, [] as empty, _∷_ as _∷ₛ_}
 use Prim.Native.Char.{code as ascii}
 use native.Mathlib.Omega.{arith}
-use mathlib.Core.Path.{_≡_, refl, sym, ap, _∙_, subst}
-use mathlib.Core.Logic.{_↔_, _⊎_, inl, inr, ⊎-elim, Iff·rfl, Iff·trans, Iff·symm}
-use mathlib.Core.Bool.{Bool, true, false, not, _&&_, _||_}
-use mathlib.Core.List.{List, [], _∷_, _++_}
-use lib.Dec.{eqb, leb}
-use lib.IntN.{ℤ, pos, negℤ}
+use mathlib.Core.Path.{_≡_, refl, sym}
+use mathlib.Core.Logic.{_↔_, _⊎_, inl, inr, ⊎-elim, Iff·rfl, Iff·trans}
+use mathlib.Core.Bool.{Bool, true, false, _&&_, _||_}
+use mathlib.Core.List.{List, [], _∷_}
+use lib.Dec.{eqb}
+use lib.IntN.{pos, negℤ}
 use lib.ListN.{length, take, drop, replicate}
 use borrow.Author.Tests.{eqb-true, eq-eqb}
 use Rattle.rules.specs.Places.{pick}
 use Rattle.rules.specs.Plan.{fileR}
 use Rattle.rules.specs.Text.{col, same, blank, bytes, oneOf}
-use Rattle.rules.specs.Numbers.{digit, Number, malformed, plus, minus, digits, whole, signed, then, decimal, size, value}
+use Rattle.rules.specs.Numbers.{Number, malformed, plus, minus, digits, whole, signed, then, decimal, size, value}
 use Rattle.rules.specs.Kinds.{Kind, startsNonBlank, digitsOnly, coordinate, index, waterDepth, time, wholeNumber, signedNumber, signedDecimal, decimalNumber, code, mayBeBlank, formed, between, within, allDigits, digit1, indexOf, family, isCode, water, isTime, fits}
-use Rattle.rules.proofs.Tests.{says, clash, and-is, or-is, pick-is, same-is, yes-no}
-use Rattle.rules.proofs.Numbers.{no-plus, no-minus, Digit, Digits, digit-is, Figures, digits-are, Whole, Minus, whole-is, signed-plus, signed-minus, Tenths, then-plus, then-minus, decimal-is}
+use Rattle.rules.proofs.Tests.{says, clash, and-is, or-is, pick-is, same-is}
+use Rattle.rules.proofs.Numbers.{no-plus, no-minus, Digits, digit-is, Figures, digits-are, Whole, Minus, whole-is, signed-plus, signed-minus, Tenths, then-plus, then-minus, decimal-is}
 
 abbrev pub Decimal : List ℕ → ℕ → Type 0
 Decimal = Tenths Whole

@@ -5,13 +5,12 @@
 --   FieldsRead M l ws   = each field of the table obeys its rule, but those that a marker has free, where M says that l is one
 --   Counted q           = 6 of one relation line
 --   Formed i f          = a field for each refusal 1 to 6
-use Prim.Native.Nat.{ℕ, _+_, _/_, _%_, _≤_, _<_, min}
+use Prim.Native.Nat.{ℕ, _/_, _%_, _≤_, _<_}
 use Prim.Native.Char.{code as ascii}
-use mathlib.Core.Path.{_≡_, refl}
-use mathlib.Core.Logic.{_↔_, Iff·rfl, Iff·trans}
-use mathlib.Core.Bool.{Bool, true, false, not, _&&_}
+use mathlib.Core.Path.{_≡_}
+use mathlib.Core.Logic.{_↔_, Iff·rfl}
+use mathlib.Core.Bool.{Bool, true, false}
 use mathlib.Core.List.{List, [], _∷_}
-use lib.Dec.{eqb}
 use Rattle.rules.specs.Plan.{fileX}
 use Rattle.rules.specs.Text.{col, bytes}
 use Rattle.rules.specs.Layout.{Layout, letterColumn, at}

@@ -1,15 +1,13 @@
 -- Refusals 7, 8 and 9 in the paper's words.
 --   OfType L t l   = the two digits of t, and a blank column after them
 --   Rule7 .. Rule9 = the rules of those numbers
-use Prim.Native.Nat.{ℕ, suc, _≤_, _<_, min}
+use Prim.Native.Nat.{ℕ, suc, _<_}
 use native.Mathlib.Omega.{arith}
-use mathlib.Core.Path.{_≡_, refl, sym, ap, _∙_}
-use mathlib.Core.Logic.{_↔_, ⊎-elim, Iff·rfl, Iff·trans}
-use mathlib.Core.Bool.{Bool, true, false}
+use mathlib.Core.Path.{_≡_, refl}
+use mathlib.Core.Logic.{_↔_, ⊎-elim, Iff·rfl}
+use mathlib.Core.Bool.{true}
 use mathlib.Core.List.{List, [], _∷_}
-use lib.Dec.{eqb}
 use borrow.Author.Tests.{eqb-true, eq-eqb}
-use Rattle.rules.specs.Places.{least}
 use Rattle.rules.specs.Plan.{upTo}
 use Rattle.rules.specs.Text.{bytes}
 use Rattle.rules.specs.Layout.{Layout, at}
@@ -17,10 +15,10 @@ use Rattle.rules.specs.Sheet.{Sheet}
 use Rattle.rules.specs.Lines.{isData, heads}
 use Rattle.rules.specs.Headers.{twoDigits, isType, projection, rule7, rule8, rule9, sameColumns}
 use Rattle.rules.proofs.Tests.{says, clash}
-use Rattle.rules.proofs.Least.{least-is, least-below}
+use Rattle.rules.proofs.Least.{least-is}
 use Rattle.rules.proofs.Breach.{Met}
 use Rattle.rules.proofs.Fields.{Blank, blank-is}
-use Rattle.rules.proofs.Form.{Header, Data, data-is}
+use Rattle.rules.proofs.Form.{Data, data-is}
 
 abbrev pub OfType : Layout → ℕ → List ℕ → Type 0
 OfType L t l = (at l (L .headerType) ≡ twoDigits t) × Blank (at l (L .headerMore))

@@ -2,13 +2,12 @@
 --   Meets r s x       = a field for each refusal 1 to 19, in the paper's words; those of 1 to 6 stand in `Formed`, for each file
 --   verdict-meets     = the verdict is fine exactly when Meets holds
 --   verdict-refuses   = it refuses by w exactly when w's rule is breached at w's place and nothing earlier in the order is
-use Prim.Native.Nat.{ℕ, suc, _≤_, _<_}
+use Prim.Native.Nat.{ℕ, _<_}
 use native.Mathlib.Omega.{arith}
-use mathlib.Core.Path.{_≡_, refl, sym, ap, _∙_}
+use mathlib.Core.Path.{_≡_, sym, _∙_}
 use mathlib.Core.Logic.{_↔_, Iff·trans, Iff·rfl}
-use Rattle.rules.specs.Plan.{Refusal, Verdict, fine, refused, fileR, fileS, fileX}
+use Rattle.rules.specs.Plan.{Refusal, fine, refused, fileR, fileS, fileX}
 use Rattle.rules.specs.Sheet.{Sheet}
-use Rattle.rules.specs.Points.{pointAt}
 use Rattle.rules.specs.Relations.{Relation, relationAt}
 use Rattle.rules.specs.Order.{lineOfPoint, shotLine}
 use Rattle.rules.specs.Check.{rules, verdict}

@@ -6,20 +6,18 @@
 --   Whole bs n           = blanks, then digits of value n
 --   Minus bs n           = blanks, a minus, then digits of value n
 --   Tenths P bs n        = columns of which P holds, a point and one digit: n tenths
-use Prim.Native.Nat.{ℕ, zero, suc, _+_, _-_, _*_, _≤_, _<_}
+use Prim.Native.Nat.{ℕ, zero, suc, _+_, _-_, _*_, _≤_}
 use native.Mathlib.Omega.{arith}
 use mathlib.Core.Path.{_≡_, refl, sym, ap, _∙_, subst}
-use mathlib.Core.Logic.{_↔_, _⊎_, inl, inr, ⊎-elim, Iff·rfl, Iff·trans}
-use mathlib.Core.Bool.{Bool, true, false, _&&_}
+use mathlib.Core.Logic.{_↔_, Iff·rfl, Iff·trans}
+use mathlib.Core.Bool.{true, _&&_}
 use mathlib.Core.List.{List, [], _∷_, _++_, append-assoc}
-use lib.Dec.{eqb, leb, lit≤}
-use lib.IntN.{ℤ, pos, negℤ}
+use lib.Dec.{eqb, leb}
 use lib.ListN.{length, getD, take, replicate, length-append}
 use lib.Seq.{take-suc, take-all, take-at, getD-at}
-use borrow.Author.Tests.{eqb-true, eq-eqb, le-leb}
-use Rattle.rules.specs.Places.{pick}
-use Rattle.rules.specs.Numbers.{digit, Number, malformed, plus, minus, digitsAfter, digits, justified, whole, negative, minusOr, signed, then, decimal, size, value}
-use Rattle.rules.proofs.Tests.{says, and-is, pick-is, yes-no}
+use borrow.Author.Tests.{eqb-true, eq-eqb}
+use Rattle.rules.specs.Numbers.{digit, Number, malformed, plus, minus, digitsAfter, digits, justified, whole, negative, minusOr, signed, then, decimal}
+use Rattle.rules.proofs.Tests.{says, pick-is, yes-no}
 
 pub no-plus {ℓ} : {A : Type ℓ} {n : ℕ} → malformed ≡ plus n → A
 no-plus e = absurd (let z : _≡_ {A = ℕ} 0 1 = cc in omega arith)

@@ -4,30 +4,26 @@
 --   Earlier v w         = by day then time
 --   Mates x k j         = line j is a relation line of the same tape and record as line k
 --   Rule10 .. Rule19    = the rules of those numbers; Tested14 is 14 as it is tested
-use Prim.Native.Nat.{ℕ, suc, _+_, _≤_, _<_}
-use native.Mathlib.Omega.{arith}
-use mathlib.Core.Path.{_≡_, refl, sym, ap, _∙_}
+use Prim.Native.Nat.{ℕ, suc, _≤_, _<_}
+use mathlib.Core.Path.{_≡_}
 use mathlib.Core.Logic.{_↔_, _⊎_, inl, inr, ⊎-elim, Iff·rfl, Iff·trans}
-use mathlib.Core.Bool.{Bool, true, false, not, _&&_, _||_}
+use mathlib.Core.Bool.{true, _&&_}
 use mathlib.Core.List.{List}
 use lib.Dec.{eqb, ltb}
-use Rattle.rules.specs.Places.{every, some}
+use Rattle.rules.specs.Places.{some}
 use Rattle.rules.specs.Plan.{upTo, _before_}
 use Rattle.rules.specs.Names.{Name}
 use Rattle.rules.specs.Sheet.{Sheet}
-use Rattle.rules.specs.Lines.{isPoint}
 use Rattle.rules.specs.Points.{Point as PointValues, pointAt, isAt, samePoint}
 use Rattle.rules.specs.Relations.{Reach, Relation, reachAt, relationAt}
-use Rattle.rules.specs.Cover.{receivers, receiverOn, meet}
 use Rattle.rules.specs.Reaches.{reachesOf, ofRecord, mates, together, rises, once}
-use Rattle.rules.specs.Order.{above, earlier, isPointAt, lineOfPoint, shotLine, receiverLine, names, sameShot, receiversThere, rule10, rule11, rule12, rule13, rule14, rule15, rule16, rule17, rule18, rule19}
+use Rattle.rules.specs.Order.{earlier, isPointAt, shotLine, names, sameShot, receiversThere, rule10, rule11, rule12, rule13, rule14, rule15, rule16, rule17, rule18, rule19}
 use Rattle.rules.specs.Check.{relationFits}
 use Rattle.rules.proofs.Tests.{says, and-is, or-is, eqb-is, ltb-is}
-use Rattle.rules.proofs.Least.{least-first, least-there}
 use Rattle.rules.proofs.Breach.{Met}
 use Rattle.rules.proofs.Form.{Data, data-is, Point, point-is}
 use Rattle.rules.proofs.Above.{Above, above-is}
-use Rattle.rules.proofs.Cover.{Covers, covers-is, every-receiver, Meet, meet-is}
+use Rattle.rules.proofs.Cover.{Covers, every-receiver, Meet, meet-is}
 
 abbrev pub At : Name → ℕ → ℕ → PointValues → Type 0
 At n p i v = (v .name ≡ n) × ((v .number ≡ p) × (v .index ≡ i))

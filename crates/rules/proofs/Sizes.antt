@@ -1,15 +1,15 @@
 -- How large a number can be: below ten to the number of its columns.
-use Prim.Native.Nat.{ℕ, zero, suc, _+_, _-_, _*_, _^_, _≤_, _<_}
+use Prim.Native.Nat.{ℕ, suc, _+_, _-_, _*_, _^_, _≤_, _<_}
 use native.Mathlib.Nat.{add-zero, pow-suc, one-le-pow, pow-le-pow-right, le-trans}
 use native.Mathlib.Omega.{arith}
-use mathlib.Core.Path.{_≡_, refl, sym, ap, _∙_, subst}
-use mathlib.Core.Bool.{Bool, true, false, _&&_}
+use mathlib.Core.Path.{_≡_, refl, subst}
+use mathlib.Core.Bool.{Bool, true, false}
 use mathlib.Core.List.{List, [], _∷_}
-use lib.Dec.{eqb, leb}
+use lib.Dec.{eqb}
 use lib.ListN.{length, getD, take, length-take}
 use Rattle.rules.specs.Places.{pick}
 use Rattle.rules.specs.Numbers.{digit, Number, malformed, plus, minus, digitsAfter, digits, justified, whole, negative, minusOr, signed, then, decimal, size}
-use Rattle.rules.proofs.Tests.{says, and-is, yes-no}
+use Rattle.rules.proofs.Tests.{says}
 use Rattle.rules.proofs.Numbers.{digit-is}
 
 abbrev pub Small : Number → ℕ → Type 0

@@ -1,33 +1,31 @@
 -- The spread table: it agrees with the lookup at every place up to the highest covered channel; later places stay; a refusal writes nothing.
-use Prim.Native.Nat.{ℕ, zero, suc, _+_, _≤_, _<_, max}
+use Prim.Native.Nat.{ℕ, zero, suc, _+_, _≤_, _<_}
 use native.Mathlib.Nat.{not-suc-le-zero, lt-suc-self}
 use native.Mathlib.Omega.{arith}
-use mathlib.Core.Path.{_≡_, refl, sym, ap, _∙_, subst}
-use mathlib.Core.Logic.{_↔_, _⊎_, inl, inr, ⊎-elim, Iff·rfl}
+use mathlib.Core.Path.{_≡_, refl, sym, ap, _∙_}
+use mathlib.Core.Logic.{_↔_}
 use mathlib.Core.Bool.{Bool, true, false, _&&_}
 use mathlib.Core.List.{List}
-use lib.Dec.{leb}
 use lib.ListN.{length, getD, set, length-set}
 use lib.Seq.{getD-set-same, getD-set-other}
 use Rattle.rules.specs.Places.{pick, greatest}
-use Rattle.rules.specs.Plan.{Refusal, Verdict, fine, refused, _before_, run}
+use Rattle.rules.specs.Plan.{Refusal, fine, refused, _before_}
 use Rattle.rules.specs.Sheet.{Sheet}
 use Rattle.rules.specs.Lines.{isData}
 use Rattle.rules.specs.Relations.{reachAt}
 use Rattle.rules.specs.Reaches.{ofRecord}
-use Rattle.rules.specs.Check.{Answer, highest, noTrace, rules, verdict, answer}
+use Rattle.rules.specs.Check.{Answer, rules, verdict, answer}
 use Rattle.rules.specs.Questions.{recordAsked, channelAsked, rule20}
 use Rattle.rules.specs.Lookup.{found, lookup}
 use Rattle.rules.specs.Spread.{highestOf, turns, place, rule21, spreadVerdict, unlessRefused, slice}
 use Rattle.rules.proofs.Tests.{says, clash, more, and-is}
-use Rattle.rules.proofs.Breach.{Met, run-met}
-use Rattle.rules.proofs.Form.{Data, data-is}
-use Rattle.rules.proofs.Cover.{Sound}
+use Rattle.rules.proofs.Breach.{run-met}
+use Rattle.rules.proofs.Form.{data-is}
 use Rattle.rules.proofs.Order.{of-record-is}
 use Rattle.rules.proofs.Meets.{Meets, verdict-meets}
 use Rattle.rules.proofs.Search.{Of}
 use Rattle.rules.proofs.Accepted.{sound}
-use Rattle.rules.proofs.Demand3.{Asked, asked-is, asked-then, Answered, answered}
+use Rattle.rules.proofs.Demand3.{Asked, asked-is, asked-then}
 
 -- turns that each put one place
 pub turns-length : (g : ℕ → ℕ) (n : ℕ) (d : List ℕ) → length (turns (place g) n d) ≡ length d

@@ -1,13 +1,13 @@
 -- The laws by which code meets a definition: a plan taken rule by rule, and a definition over places taken place by place.
 -- Each is stated as a step of a loop has it: what holds of the first k places, and what place k says.
-use Prim.Native.Nat.{ℕ, zero, suc, _+_, _<_, max}
+use Prim.Native.Nat.{ℕ, suc, _+_, _<_, max}
 use native.Mathlib.Numerals.{add-one}
 use native.Mathlib.Omega.{arith}
 use mathlib.Core.Path.{_≡_, refl, sym, ap, _∙_}
 use mathlib.Core.Bool.{Bool, true, false}
 use borrow.Author.Tests.{le-ltb}
 use Rattle.rules.specs.Places.{pick, every, some, least, count, sum, greatest}
-use Rattle.rules.specs.Plan.{Refusal, Verdict, fine, refused, _orElse_, firstOf, Plan, pass, need, _before_, upTo, when, run}
+use Rattle.rules.specs.Plan.{Refusal, fine, refused, _orElse_, firstOf, Plan, need, _before_, upTo, when, run}
 use Rattle.rules.proofs.Tests.{clash, every-is, some-is}
 use Rattle.rules.proofs.Least.{least-first, least-there}
 use Rattle.rules.proofs.Breach.{first-fine, first-refused}

@@ -7,7 +7,7 @@ use mathlib.Core.Path.{_≡_, refl, sym, ap, ap₂, _∙_, subst, subst₂}
 use mathlib.Core.Logic.{_↔_, _⊎_, inl, inr, ⊎-elim, Iff·rfl}
 use mathlib.Core.Bool.{Bool, true, false, _&&_, and-false}
 use mathlib.Core.List.{List}
-use lib.Dec.{leb, ltb}
+use lib.Dec.{leb}
 use borrow.Author.Tests.{lt-ltb, le-ltb}
 use Rattle.rules.specs.Places.{pick}
 use Rattle.rules.specs.Sheet.{Sheet, mostLines}
@@ -16,12 +16,12 @@ use Rattle.rules.specs.Points.{Point as PointValues, pointAt}
 use Rattle.rules.specs.Relations.{Reach, reachAt}
 use Rattle.rules.specs.Cover.{carries, leads, component, channelOf}
 use Rattle.rules.specs.Reaches.{reachesOf, search}
-use Rattle.rules.specs.Order.{lineOfPoint, receiverLine}
+use Rattle.rules.specs.Order.{receiverLine}
 use Rattle.rules.specs.Check.{Answer, trace, channel, noTrace}
 use Rattle.rules.specs.Lookup.{found, foundBack, reaches}
-use Rattle.rules.proofs.Tests.{says, clash, and-is, leb-is}
-use Rattle.rules.proofs.Form.{Data, Point, point-is}
-use Rattle.rules.proofs.Cover.{Covers, Carries, covers-is, carries-is, Sound, Reached, reached, channel-back, carried, leads-back, component-back}
+use Rattle.rules.proofs.Tests.{says, clash}
+use Rattle.rules.proofs.Form.{Point, point-is}
+use Rattle.rules.proofs.Cover.{Carries, covers-is, carries-is, Reached, reached, channel-back, carried, leads-back, component-back}
 use Rattle.rules.proofs.Order.{Receiver}
 use Rattle.rules.proofs.Meets.{Meets}
 use Rattle.rules.proofs.Search.{Of, Found, Absent, search-is, search-first}

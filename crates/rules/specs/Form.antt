@@ -4,7 +4,7 @@
 --   lineFits i f k   = 3 (whole line), 4, 5, 6 of line k
 --   form i f         = 1, 2, then line by line
 use Prim.Native.Nat.{ℕ, _+_, _/_, _%_, min}
-use mathlib.Core.Bool.{Bool, true, false, not, _&&_}
+use mathlib.Core.Bool.{Bool, false, not, _&&_}
 use mathlib.Core.List.{List, [], _∷_}
 use lib.Dec.{eqb, leb}
 use Rattle.rules.specs.Places.{every, pick}

@@ -2,9 +2,9 @@
 --   isType L t l     = l is a header line of type t, with a blank column after it
 --   projection L l   = its text, cut before the first semicolon and freed of outer blanks
 --   rule7 .. rule9   = the refusals of those numbers
-use Prim.Native.Nat.{ℕ, zero, suc, _+_, _/_, _%_, min}
+use Prim.Native.Nat.{ℕ, suc, _+_, _/_, _%_, min}
 use Prim.Native.Char.{code as ascii}
-use mathlib.Core.Bool.{Bool, true, false, not, _&&_, _||_}
+use mathlib.Core.Bool.{Bool, false, not, _&&_}
 use mathlib.Core.List.{List, [], _∷_}
 use lib.Dec.{eqb}
 use Rattle.rules.specs.Places.{pick, every, some}

@@ -7,7 +7,7 @@
 --   decimal read bs           = a number by `read`, a point and one digit, in tenths
 --   size v, value v           = the number without and with its sign; -0 is 0
 use Prim.Native.Nat.{ℕ, _+_, _-_, _*_}
-use mathlib.Core.Bool.{Bool, true, false, _&&_}
+use mathlib.Core.Bool.{Bool, _&&_}
 use mathlib.Core.List.{List, [], _∷_}
 use lib.Dec.{eqb, leb}
 use lib.IntN.{ℤ, pos, negℤ}

@@ -7,9 +7,9 @@ use Prim.Native.Nat.{ℕ, _+_}
 use mathlib.Core.Bool.{Bool, not, _&&_, _||_}
 use lib.Dec.{eqb, leb, ltb}
 use Rattle.rules.specs.Places.{every, some, least, ifBefore, ofLast}
-use Rattle.rules.specs.Plan.{Plan, №, fileR, fileS, fileX, need, _before_, when}
+use Rattle.rules.specs.Plan.{Plan, №, fileR, fileS, fileX, need, when}
 use Rattle.rules.specs.Names.{Name, sameName, lessName}
-use Rattle.rules.specs.Layout.{Layout, letterColumn}
+use Rattle.rules.specs.Layout.{letterColumn}
 use Rattle.rules.specs.Sheet.{Sheet}
 use Rattle.rules.specs.Lines.{isData, isPoint}
 use Rattle.rules.specs.Points.{Point, pointAt, isAt, samePoint}

@@ -11,7 +11,7 @@
 --   when t p           = p is looked for where the test t passes
 --   run p              = the first refusal of a plan
 use Prim.Native.Nat.{ℕ, zero, suc}
-use mathlib.Core.Bool.{Bool, true, false}
+use mathlib.Core.Bool.{Bool}
 use Rattle.rules.specs.Places.{pick}
 
 pub data Refusal : Type 0 where

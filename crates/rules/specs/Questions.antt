@@ -5,14 +5,14 @@
 --   componentAsked m    = a component
 --   rule20 ok           = the refusal of that number, unless the question is in range
 use Prim.Native.Nat.{ℕ, _+_, _-_}
-use mathlib.Core.Bool.{Bool, not, _&&_}
+use mathlib.Core.Bool.{Bool, _&&_}
 use mathlib.Core.List.{List}
 use lib.Dec.{eqb, leb}
 use lib.ListN.{length, getD}
 use Rattle.rules.specs.Places.{every}
 use Rattle.rules.specs.Plan.{Plan, №, need}
 use Rattle.rules.specs.Kinds.{startsNonBlank, fits}
-use Rattle.rules.specs.Layout.{Layout, Span}
+use Rattle.rules.specs.Layout.{Layout}
 use Rattle.rules.specs.Sheet.{mostLines}
 use Rattle.rules.specs.Disc.{printable}
 

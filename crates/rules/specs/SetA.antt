@@ -5,7 +5,7 @@
 --   relationLine       = a line of X: source point, channels and increment, receiver line name, receivers
 --   rOf, xOf           = an R file of three points, an X file of those lines
 --   rA, sA, xA         = set A
-use Prim.Native.Nat.{ℕ, zero, suc, _+_, _-_, _/_, _%_}
+use Prim.Native.Nat.{ℕ, zero, suc, _+_, _-_}
 use Prim.Native.String.{String}
 use mathlib.Core.List.{List, [], _∷_, _++_}
 use lib.ListN.{take, drop, replicate, length}

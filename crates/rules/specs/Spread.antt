@@ -7,10 +7,10 @@
 --   slice part          = what a slice holds afterwards, of which each place takes that part of its channel's answer
 --   spreadLines, spreadComponents = what the two slices hold afterwards
 use Prim.Native.Nat.{ℕ, zero, suc, _+_}
-use mathlib.Core.Bool.{Bool, _&&_}
+use mathlib.Core.Bool.{_&&_}
 use mathlib.Core.List.{List}
 use lib.Dec.{leb}
-use lib.ListN.{length, set}
+use lib.ListN.{set}
 use Rattle.rules.specs.Places.{pick, greatest}
 use Rattle.rules.specs.Plan.{Verdict, fine, refused, Plan, №, need, _before_, run}
 use Rattle.rules.specs.Sheet.{Sheet}

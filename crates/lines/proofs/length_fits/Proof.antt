@@ -1,5 +1,5 @@
 -- `lines::length_fits` meets its contract: 1, then 2. Assumes nothing.
-use Prim.Native.Nat.{ℕ, _+_, _/_, _%_, min}
+use Prim.Native.Nat.{ℕ, _+_, _/_, min}
 use mathlib.Core.Path.{_≡_, ap, _∙_}
 use native.Mathlib.Omega.{arith}
 use lib.ListN.{length}

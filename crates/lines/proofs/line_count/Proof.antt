@@ -1,6 +1,6 @@
 use Rattle.rules.specs.Disc.{disc}
-use Prim.Native.Nat.{_+_, _-_, _*_, _≤_, _<_}
-use mathlib.Core.Path.{_≡_, refl, _∙_}
+use Prim.Native.Nat.{_-_}
+use mathlib.Core.Path.{refl}
 use Rattle.lines.proofs.line_count.Statement.{statement}
 use Rattle.lines.proofs.line_count.Tie as tie
 use Rattle.lines.proofs.line_count.Reads as reads

@@ -2,7 +2,7 @@ use Rattle.rules.proofs.Disc.{room}
 use Rattle.rules.specs.Disc.{disc}
 use Rattle.rules.specs.Layout.{sps93}
 use Rattle.lines.proofs.Laws.{Copied, copied-more, copied-all}
-use Prim.Native.Nat.{_+_, _-_, _*_, _≤_, _<_}
+use Prim.Native.Nat.{_-_, _*_, _≤_}
 use mathlib.Core.Path.{_≡_, refl, _∙_}
 use native.Mathlib.Omega.{arith}
 use borrow.Author.Needs.{needs}

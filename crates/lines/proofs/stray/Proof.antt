@@ -4,8 +4,8 @@ use Rattle.rules.proofs.Disc.{room}
 use Rattle.rules.specs.Disc.{disc, strayFrom}
 use Rattle.rules.specs.Layout.{sps93}
 use Rattle.lines.proofs.Laws.{stray-end, stray-stop, stray-step}
-use Prim.Native.Nat.{_+_, _-_, _*_, _≤_, _<_}
-use mathlib.Core.Path.{_≡_, _∙_}
+use Prim.Native.Nat.{_+_, _-_, _*_, _≤_}
+use mathlib.Core.Path.{_≡_}
 use native.Mathlib.Omega.{arith}
 use borrow.Author.Needs.{needs}
 use lib.ListN.{take, drop}
