@@ -1,5 +1,5 @@
 -- The steps of the form of a file, by what the code finds at each.
-use Prim.Native.Nat.{ℕ, _+_, _≤_, _<_}
+use Prim.Native.Nat.{ℕ, _+_, _<_}
 use native.Mathlib.Numerals.{add-one}
 use native.Mathlib.Omega.{arith}
 use mathlib.Core.Path.{_≡_, refl, sym, ap, _∙_}
@@ -15,17 +15,13 @@ use Rattle.rules.specs.Sheet.{mostLines}
 use Rattle.rules.specs.Disc.{disc, file}
 use Rattle.rules.specs.Lines.{letter, isHeader}
 use Rattle.rules.specs.Relations.{reach}
-use Rattle.rules.specs.Rows.{relationRows}
-use Rattle.rules.specs.Form.{rule1, rule2, rule3, rule4, rule5, rule6, lineFits}
-use Rattle.rules.proofs.Tests.{clash}
+use Rattle.rules.specs.Form.{rule1, rule2, rule3, rule4, rule6, lineFits}
 use Rattle.rules.proofs.Breach.{run-met}
-use Rattle.rules.proofs.Form.{Header, header-is, rule5-is}
-use Rattle.rules.proofs.Accepted.{index-in}
 use Rattle.rules.proofs.Steps.{need-met, need-broken, before-met, before-broken, when-on, when-off}
 use Rattle.lines.specs.declared.Verdict.{Verdict}
 use Rattle.lines.specs.declared.Verdict.the-variants.{Fine, Refused}
 use Rattle.lines.specs.Paper.{paper}
-use Rattle.form.specs.Steps.{headersTo, numbersOf, fieldsOf, Fielded}
+use Rattle.form.specs.Steps.{headersTo, numbersOf, fieldsOf}
 
 -- a call's verdict on the first part of a plan, and the plan
 module _ (v : Verdict) (p : Plan) (e : paper v ≡ run p) where
@@ -94,14 +90,6 @@ module _ (i k : ℕ) (l : List ℕ) where
     pub six-relation : t ≡ false → i ≡ 3 → (v : PaperVerdict) → v ≡ run (rule6 sps93 k (reach sps93 l)) → v ≡ run (numbersOf i k l)
     unfolding numbersOf
     six-relation n x v p = p ∙ when-on _ _ (rw (← q, n, eq-eqb i 3 x))
-
-    -- a relation line whose fields obey 5 has an increment
-    pub six-step : t ≡ false → i ≡ 3 → Fielded i k l → 1 ≤ reach sps93 l .step
-    unfolding reach relationRows
-    six-step n x p =
-        let r = rule5-is i sps93 k l .0 (run-met (rule5 i sps93 k l) .0 (sym p)) in
-        let d : Header l → ⊥ = λ h. clash (sym n ∙ q ∙ header-is l .1 h) in
-        index-in l (sps93 .step) (r .1 .1 (d, x) .1 .1 .1 .1 .1 .1 .1 .1 .1 .0 (λ e. e .1)) .0
 
 -- 3, then the rest of a line
 module _ (f : List ℕ) (i k c : ℕ) (e : c ≡ file f .stray k) where

@@ -2,14 +2,12 @@
 --   headersTo f k    = the lines before line k are all header lines
 --   numbersOf i k l  = 6 of a line, where it is a relation line
 --   fieldsOf i k l   = 5, then 6
---   Fielded i k l    = the fields of a line obey 5
 use Prim.Native.Nat.{ℕ}
-use mathlib.Core.Path.{_≡_}
 use mathlib.Core.Bool.{Bool, not, _&&_}
 use mathlib.Core.List.{List}
 use lib.Dec.{eqb}
 use Rattle.rules.specs.Places.{every}
-use Rattle.rules.specs.Plan.{Plan, fine, run, when, _before_}
+use Rattle.rules.specs.Plan.{Plan, when, _before_}
 use Rattle.rules.specs.Layout.{sps93}
 use Rattle.rules.specs.Disc.{file}
 use Rattle.rules.specs.Lines.{isHeader}
@@ -24,6 +22,3 @@ numbersOf i k l = when (not (isHeader l) && eqb i 3) (rule6 sps93 k (reach sps93
 
 unfoldable pub fieldsOf : ℕ → ℕ → List ℕ → Plan
 fieldsOf i k l = rule5 i sps93 k l before numbersOf i k l
-
-abbrev pub Fielded : ℕ → ℕ → List ℕ → Type 0
-Fielded i k l = fine ≡ run (rule5 i sps93 k l)

@@ -9,7 +9,7 @@ ghost use Rattle.rules.specs.Disc.{file};
 ghost use Rattle.rules.specs.Lines.{letter as letterOf, isHeader};
 ghost use Rattle.rules.specs.Form.{rule4 as rule4Of, lineFits, form as formOf};
 ghost use Rattle.lines.specs.Paper.{paper};
-ghost use Rattle.form.specs.Steps.{headersTo, numbersOf, fieldsOf, Fielded};
+ghost use Rattle.form.specs.Steps.{headersTo, numbersOf, fieldsOf};
 use lines::Verdict;
 use records::fits;
 
@@ -43,9 +43,9 @@ fn rule4(l: &[u8; 80], f: &[u8], i: u8, k: usize, headers: bool) -> Verdict
     Verdict::Refused(4, i, k as u32 + 1, 1)
 }
 
-// 6 of line k, where it is a relation line; its fields obey 5.
+// 6 of line k, where it is a relation line.
 fn numbers_fit(l: &[u8; 80], i: u8, k: u32) -> Verdict
-    requires { ⌜ (k < 10000) × (Fielded i k (now l)) ⌝ }
+    requires { ⌜ k < 10000 ⌝ }
     ensures verdict { λ v. ⌜ paper v ≡ run (numbersOf i k (now (l .entry))) ⌝ }
 {
     if i != 3 {

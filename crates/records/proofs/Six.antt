@@ -1,5 +1,6 @@
 -- 6 of a relation line, from the values that the code holds.
 use Prim.Native.Nat.{ℕ, _+_, _-_, _/_, _%_, _^_, _≤_, _<_}
+use native.Mathlib.Nat.{div-add-mod}
 use native.Mathlib.Omega.{arith}
 use mathlib.Core.Path.{_≡_, sym, ap, ap₂, _∙_}
 use mathlib.Core.Bool.{true}
@@ -20,6 +21,9 @@ use Rattle.records.specs.Coded.{codedReach}
 use Rattle.records.specs.declared.relation.Reach.{Reach}
 use Rattle.records.proofs.Sizes.{below}
 
+by-none : (n : ℕ) → n % 0 ≡ n
+by-none n = let e = div-add-mod n 0 in omega arith
+
 module _ (k : ℕ) (p : PaperReach) (q : Reach) (e : q ≡ codedReach p) where
   from-is : q .from ≡ p .from
   from-is = ap (λ (q : Reach). q .from) e
@@ -27,7 +31,7 @@ module _ (k : ℕ) (p : PaperReach) (q : Reach) (e : q ≡ codedReach p) where
   upto-is : q .upto ≡ p .upto
   upto-is = ap (λ (q : Reach). q .upto) e
 
-  pub step-is : q .step ≡ p .step
+  step-is : q .step ≡ p .step
   step-is = ap (λ (q : Reach). q .step) e
 
   first-is : q .«from_receiver» ≡ p .fromReceiver
@@ -77,6 +81,13 @@ module _ (k : ℕ) (p : PaperReach) (q : Reach) (e : q ≡ codedReach p) where
       six-multiple h =
           before-broken _ _ _ (need-broken _ _ (ne-eqb _ _ (λ z. h (remainder ∙ z)))) ∙ before-met _ _ (need-met _ _ two)
           ∙ before-met _ _ (need-met _ _ one)
+
+      -- an increment of 0 divides no number of channels
+      pub six-none : q .step ≡ 0 → refused (№ 6 3 (k + 1) 47) ≡ run (rule6 sps93 k p)
+      six-none s = six-multiple (λ z. none (ap (λ (i : ℕ). (q .upto + 1 - q .from) % i) (sym s) ∙ z))
+        where
+          none : (q .upto + 1 - q .from) % 0 ≡ 0 → ⊥
+          none z = let e = by-none (q .upto + 1 - q .from) in omega arith
 
       module _ (m : (q .upto + 1 - q .from) % q .step ≡ 0) where
         three : eqb (traces p % p .step) 0 ≡ true

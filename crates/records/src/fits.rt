@@ -99,9 +99,9 @@ pub fn rule5(l: &[u8; 80], i: u8, k: u32) -> Verdict
     fields_fit(l, Table::Point(i), is_marker(l), i, k)
 }
 
-// 6 of line k of X, from 0, whose fields obey 5.
+// 6 of line k of X, from 0.
 pub fn rule6(l: &[u8; 80], k: u32) -> Verdict
-    requires { ⌜ (k < 10000) × (1 ≤ reachOf sps93 (now l) .step) ⌝ }
+    requires { ⌜ k < 10000 ⌝ }
     ensures verdict { λ v. ⌜ paper v ≡ run (rule6Of sps93 k (reachOf sps93 (now (l .entry)))) ⌝ }
 {
     let q = relation::reach_of(l);
@@ -113,6 +113,9 @@ pub fn rule6(l: &[u8; 80], k: u32) -> Verdict
     }
     let n = q.upto + 1 - q.from;
     let i = q.step;
+    if i == 0 {
+        return Verdict::Refused(6, 3, k + 1, 47);
+    }
     if n % i != 0 {
         return Verdict::Refused(6, 3, k + 1, 47);
     }

@@ -25,11 +25,11 @@ use Rattle.rules.proofs.Meets.{Meets}
 use Rattle.rules.proofs.Search.{Of}
 
 -- the value that is kept of a number or an index that reads
-pub number-in : (l : List ℕ) (s : Span) (a b : ℕ) → InRange Whole a b (at l s) → (a ≤ numberOf l s) × (numberOf l s ≤ b)
+number-in : (l : List ℕ) (s : Span) (a b : ℕ) → InRange Whole a b (at l s) → (a ≤ numberOf l s) × (numberOf l s ≤ b)
 unfolding numberOf
 number-in l s a b w = rw (whole-size (at l s) (w .0) (w .1)) (w .2, w .3)
 
-pub index-in : (l : List ℕ) (s : Span) → (v : ℕ) × Index (col (at l s) 1) v → (1 ≤ indexAt l s) × (indexAt l s ≤ 9)
+index-in : (l : List ℕ) (s : Span) → (v : ℕ) × Index (col (at l s) 1) v → (1 ≤ indexAt l s) × (indexAt l s ≤ 9)
 unfolding indexAt
 index-in l s w = rw (index-value _ (w .0) (w .1)) (index-range _ (w .0) (w .1))
 

@@ -1,5 +1,5 @@
 -- `form::fields_fit` meets its contract. Assumes nothing.
-use Rattle.form.proofs.Laws.{goes-on, is-met, stops-at}
+use Rattle.form.proofs.Laws.{goes-on, stops-at}
 use Rattle.form.specs.Steps.{fieldsOf}
 use borrow.Author.Needs.{needs}
 use Rattle.form.proofs.fields_fit.Statement.{statement}
@@ -19,7 +19,7 @@ enum-told-2 : tie.Need-enum-told-2
 enum-told-2 c = search needs
 
 numbers-fit-requires : tie.Need-numbers-fit-requires
-numbers-fit-requires c κs = (c .before .before .before .pre, is-met _ _ (c .before .before .rule5 .ensures) (c .enum-told2 .given .1))
+numbers-fit-requires c κs = search needs
 
 returns-2 : tie.Need-returns-2
 unfolding fieldsOf

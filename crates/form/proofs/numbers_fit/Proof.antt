@@ -1,5 +1,5 @@
 -- `form::numbers_fit` meets its contract. Assumes nothing.
-use Rattle.form.proofs.Laws.{six-header, six-other, six-relation, six-step}
+use Rattle.form.proofs.Laws.{six-header, six-other, six-relation}
 use borrow.Author.Needs.{needs}
 use Rattle.form.proofs.numbers_fit.Statement.{statement}
 use Rattle.form.proofs.numbers_fit.Tie as tie
@@ -14,7 +14,7 @@ returns-2 : tie.Need-returns-2
 returns-2 c = six-header _ _ _ _ (c .before .is-header .ensures) (c .if2 .taken)
 
 rule6-requires : tie.Need-rule6-requires
-rule6-requires c κs = (c .before .before .before .pre .0, six-step _ _ _ _ (c .before .is-header .ensures) (c .if2 .left) (c .before .before .if1 .left) (c .before .before .before .pre .1))
+rule6-requires c κs = search needs
 
 returns-3 : tie.Need-returns-3
 returns-3 c = six-relation _ _ _ _ (c .before .before .is-header .ensures) (c .before .if2 .left) (c .before .before .before .if1 .left) _ (c .rule6 .ensures)

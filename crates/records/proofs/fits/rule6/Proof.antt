@@ -1,5 +1,5 @@
 -- `records::fits::rule6` meets its contract. Assumes nothing.
-use Rattle.records.proofs.Six.{last-small, six-channels, six-count, six-fine, six-multiple, six-receivers, step-is, upto-small}
+use Rattle.records.proofs.Six.{last-small, six-channels, six-count, six-fine, six-multiple, six-none, six-receivers, upto-small}
 use Rattle.rules.specs.Layout.{sps93}
 use Rattle.rules.specs.Relations.{reach}
 use borrow.Author.Needs.{needs}
@@ -28,38 +28,38 @@ add-n c = omega (arith, upto-small (c .before .before .before .before .before .b
 sub-n : tie.Need-sub-n
 sub-n c = search needs
 
-rem-if3 : tie.Need-rem-if3
-rem-if3 c =
-    let e = step-is 0 (reach sps93 (c .before .before .before .before .before .before .before .args .l .now)) _ (c .before .before .before .before .before .before .reach-of .ensures) in
-    let h = c .before .before .before .before .before .before .before .pre .1 in
-    omega arith
-
 add-t10 : tie.Need-add-t10
 add-t10 c = search needs
 
 returns-3 : tie.Need-returns-3
-returns-3 c = six-multiple _ (reach sps93 (c .before .before .before .before .before .before .before .before .args .l .now)) _ (c .before .before .before .before .before .before .before .reach-of .ensures) (c .before .before .before .before .before .if1 .left) (c .before .before .before .if2 .left) (c .if3 .taken)
+returns-3 c = six-none _ (reach sps93 (c .before .before .before .before .before .before .before .before .args .l .now)) _ (c .before .before .before .before .before .before .before .reach-of .ensures) (c .before .before .before .before .before .if1 .left) (c .before .before .before .if2 .left) (c .if3 .taken)
 
-div-if4 : tie.Need-div-if4
-div-if4 c =
-    let e = step-is 0 (reach sps93 (c .before .before .before .before .before .before .before .before .args .l .now)) _ (c .before .before .before .before .before .before .before .reach-of .ensures) in
-    let h = c .before .before .before .before .before .before .before .before .pre .1 in
-    omega arith
+rem-if4 : tie.Need-rem-if4
+rem-if4 c = search needs
 
-add-if4 : tie.Need-add-if4
-add-if4 c = omega (arith, last-small (c .before .before .before .before .before .before .before .before .before .args .l .now) _ (c .before .before .before .before .before .before .before .before .reach-of .ensures))
-
-sub-if4 : tie.Need-sub-if4
-sub-if4 c = search needs
-
-add-t13 : tie.Need-add-t13
-add-t13 c = search needs
+add-t11 : tie.Need-add-t11
+add-t11 c = search needs
 
 returns-4 : tie.Need-returns-4
-returns-4 c = six-count _ (reach sps93 (c .before .before .before .before .before .before .before .before .before .before .before .args .l .now)) _ (c .before .before .before .before .before .before .before .before .before .before .reach-of .ensures) (c .before .before .before .before .before .before .before .before .if1 .left) (c .before .before .before .before .before .before .if2 .left) (c .before .before .before .if3 .left) (c .if4 .taken)
+returns-4 c = six-multiple _ (reach sps93 (c .before .before .before .before .before .before .before .before .before .args .l .now)) _ (c .before .before .before .before .before .before .before .before .reach-of .ensures) (c .before .before .before .before .before .before .if1 .left) (c .before .before .before .before .if2 .left) (c .if4 .taken)
+
+div-if5 : tie.Need-div-if5
+div-if5 c = search needs
+
+add-if5 : tie.Need-add-if5
+add-if5 c = omega (arith, last-small (c .before .before .before .before .before .before .before .before .before .before .args .l .now) _ (c .before .before .before .before .before .before .before .before .before .reach-of .ensures))
+
+sub-if5 : tie.Need-sub-if5
+sub-if5 c = search needs
+
+add-t14 : tie.Need-add-t14
+add-t14 c = search needs
 
 returns-5 : tie.Need-returns-5
-returns-5 c = six-fine _ (reach sps93 (c .before .before .before .before .before .before .before .before .before .before .before .args .l .now)) _ (c .before .before .before .before .before .before .before .before .before .before .reach-of .ensures) (c .before .before .before .before .before .before .before .before .if1 .left) (c .before .before .before .before .before .before .if2 .left) (c .before .before .before .if3 .left) (c .if4 .left)
+returns-5 c = six-count _ (reach sps93 (c .before .before .before .before .before .before .before .before .before .before .before .before .args .l .now)) _ (c .before .before .before .before .before .before .before .before .before .before .before .reach-of .ensures) (c .before .before .before .before .before .before .before .before .before .if1 .left) (c .before .before .before .before .before .before .before .if2 .left) (c .before .before .before .if4 .left) (c .if5 .taken)
+
+returns-6 : tie.Need-returns-6
+returns-6 c = six-fine _ (reach sps93 (c .before .before .before .before .before .before .before .before .before .before .before .before .args .l .now)) _ (c .before .before .before .before .before .before .before .before .before .before .before .reach-of .ensures) (c .before .before .before .before .before .before .before .before .before .if1 .left) (c .before .before .before .before .before .before .before .if2 .left) (c .before .before .before .if4 .left) (c .if5 .left)
 
 pub rule6-spec : {M : Type 1} → statement M
 rule6-spec =
@@ -72,12 +72,14 @@ rule6-spec =
     returns-2
     add-n
     sub-n
-    rem-if3
     add-t10
     returns-3
-    div-if4
-    add-if4
-    sub-if4
-    add-t13
+    rem-if4
+    add-t11
     returns-4
-    returns-5)
+    div-if5
+    add-if5
+    sub-if5
+    add-t14
+    returns-5
+    returns-6)
