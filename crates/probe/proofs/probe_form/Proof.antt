@@ -1,6 +1,5 @@
 -- `probe::probe_form` meets its contract. Assumes nothing.
 use Rattle.probe.specs.Host.{told}
-use Rattle.rules.specs.Form.{form}
 use mathlib.Core.Path.{_∙_, ap}
 use borrow.Author.Needs.{needs}
 use Rattle.probe.proofs.probe_form.Statement.{statement}

@@ -2,7 +2,6 @@
 use Rattle.lines.specs.Paper.{paper}
 use Rattle.lines.specs.declared.Verdict.{Verdict}
 use Rattle.probe.specs.Host.{told}
-use Rattle.rules.proofs.Traces.{given}
 use Rattle.rules.specs.Hosts.{packed}
 use mathlib.Core.Path.{ap, sym}
 use borrow.Author.Needs.{needs}
