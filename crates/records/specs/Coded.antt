@@ -1,5 +1,6 @@
 -- The code's tables and values as the paper's.
---   rowOf w      = a row of a table of fields
+--   coded ..     = a row of the code: its columns, its rule, whether it may be blank, whether a marker has it free
+--   rowOf w      = that row as the paper's
 --   rowsOf t     = the table t
 --   noRow        = what stands beyond a table's end
 --   rowFits m l w = the field of row w of line l obeys its rule, or is free in the marker that m says l is
@@ -15,6 +16,7 @@ use Rattle.rules.specs.Relations.{Reach as PaperReach, Relation as PaperRelatio
 use Rattle.fields.specs.Packed.{packed, nameOf}
 use Rattle.rules.specs.Rows.{Row as PaperRow, headerRows, pointRows, relationRows}
 use Rattle.fields.specs.Paper.{kind}
+use Rattle.fields.specs.declared.Kind.{Kind as CodeKind}
 use Rattle.records.specs.declared.point.Held.{Held}
 use Rattle.records.specs.declared.point.Held.the-variants.{Absent, Value}
 use Rattle.records.specs.declared.point.Point.{Point as PointValues}
@@ -27,6 +29,9 @@ use Rattle.records.specs.declared.table.Table.the-variants.{Header, Poin
 abbrev pub orBlank : Bool → Kind → Kind
 orBlank true k = mayBeBlank k
 orBlank false k = k
+
+abbrev pub coded : ℕ → ℕ → CodeKind → Bool → Bool → Row
+coded a b k blank free = record { first = a; last = b; kind = k; blank = blank; free = free }
 
 abbrev pub rowOf : Row → PaperRow
 rowOf w =

@@ -6,7 +6,7 @@ ghost use lib.ListN.{length, getD};
 ghost use Rattle.rules.specs.Layout.{sps93};
 ghost use Rattle.rules.specs.Rows.{headerRows, pointRows, relationRows};
 ghost use Rattle.fields.specs.Paper.{sized};
-ghost use Rattle.records.specs.Coded.{rowOf, rowsOf, noRow};
+ghost use Rattle.records.specs.Coded.{coded, rowOf, rowsOf, noRow};
 use fields::Kind;
 
 pub struct Row {
@@ -24,14 +24,26 @@ pub enum Table {
     Relation,
 }
 
+fn field(first: usize, last: usize, kind: Kind, blank: bool, free: bool) -> Row
+    ensures value { λ w. ⌜ w ≡ coded first last kind blank free ⌝ }
+{
+    Row {
+        first,
+        last,
+        kind,
+        blank,
+        free,
+    }
+}
+
 fn header_row(j: usize) -> Row
     requires { ⌜ j < 2 ⌝ }
     ensures value { λ w. ⌜ rowOf w ≡ getD (headerRows sps93) j noRow ⌝ }
     ensures kept { λ w. ⌜ sized (w .kind) (w .first) (w .last) ≡ true ⌝ }
 {
     match j {
-        0 => Row { first: 2, last: 3, kind: Kind::DigitsOnly, blank: false, free: false },
-        _ => Row { first: 4, last: 4, kind: Kind::DigitsOnly, blank: true, free: false },
+        0 => field(2, 3, Kind::DigitsOnly, false, false),
+        _ => field(4, 4, Kind::DigitsOnly, true, false),
     }
 }
 
@@ -42,23 +54,23 @@ fn point_row(i: u8, j: usize) -> Row
 {
     if j < 7 {
         match j {
-            0 => Row { first: 2, last: 17, kind: Kind::StartsNonBlank, blank: false, free: false },
-            1 => Row { first: 18, last: 25, kind: Kind::WholeNumber(0, 99999999), blank: false, free: true },
-            2 => Row { first: 26, last: 26, kind: Kind::Index, blank: false, free: false },
-            3 => Row { first: 27, last: 28, kind: Kind::Code(i), blank: false, free: false },
-            4 => Row { first: 29, last: 32, kind: Kind::SignedNumber(999, 999), blank: true, free: true },
-            5 => Row { first: 33, last: 36, kind: Kind::DecimalNumber(999), blank: false, free: true },
-            _ => Row { first: 37, last: 40, kind: Kind::SignedNumber(999, 9999), blank: false, free: true },
+            0 => field(2, 17, Kind::StartsNonBlank, false, false),
+            1 => field(18, 25, Kind::WholeNumber(0, 99999999), false, true),
+            2 => field(26, 26, Kind::Index, false, false),
+            3 => field(27, 28, Kind::Code(i), false, false),
+            4 => field(29, 32, Kind::SignedNumber(999, 999), true, true),
+            5 => field(33, 36, Kind::DecimalNumber(999), false, true),
+            _ => field(37, 40, Kind::SignedNumber(999, 9999), false, true),
         }
     } else {
         match j {
-            7 => Row { first: 41, last: 42, kind: Kind::WholeNumber(0, 99), blank: true, free: true },
-            8 => Row { first: 43, last: 46, kind: Kind::WaterDepth, blank: true, free: true },
-            9 => Row { first: 47, last: 55, kind: Kind::Coordinate, blank: false, free: false },
-            10 => Row { first: 56, last: 65, kind: Kind::Coordinate, blank: false, free: false },
-            11 => Row { first: 66, last: 71, kind: Kind::SignedDecimal(9999, 99999), blank: false, free: false },
-            12 => Row { first: 72, last: 74, kind: Kind::WholeNumber(1, 999), blank: false, free: true },
-            _ => Row { first: 75, last: 80, kind: Kind::Time, blank: false, free: true },
+            7 => field(41, 42, Kind::WholeNumber(0, 99), true, true),
+            8 => field(43, 46, Kind::WaterDepth, true, true),
+            9 => field(47, 55, Kind::Coordinate, false, false),
+            10 => field(56, 65, Kind::Coordinate, false, false),
+            11 => field(66, 71, Kind::SignedDecimal(9999, 99999), false, false),
+            12 => field(72, 74, Kind::WholeNumber(1, 999), false, true),
+            _ => field(75, 80, Kind::Time, false, true),
         }
     }
 }
@@ -70,23 +82,23 @@ fn relation_row(j: usize) -> Row
 {
     if j < 7 {
         match j {
-            0 => Row { first: 2, last: 7, kind: Kind::StartsNonBlank, blank: false, free: false },
-            1 => Row { first: 8, last: 11, kind: Kind::WholeNumber(0, 9999), blank: false, free: false },
-            2 => Row { first: 12, last: 12, kind: Kind::Index, blank: false, free: false },
-            3 => Row { first: 13, last: 13, kind: Kind::Index, blank: false, free: false },
-            4 => Row { first: 14, last: 29, kind: Kind::StartsNonBlank, blank: false, free: false },
-            5 => Row { first: 30, last: 37, kind: Kind::WholeNumber(0, 99999999), blank: false, free: false },
-            _ => Row { first: 38, last: 38, kind: Kind::Index, blank: false, free: false },
+            0 => field(2, 7, Kind::StartsNonBlank, false, false),
+            1 => field(8, 11, Kind::WholeNumber(0, 9999), false, false),
+            2 => field(12, 12, Kind::Index, false, false),
+            3 => field(13, 13, Kind::Index, false, false),
+            4 => field(14, 29, Kind::StartsNonBlank, false, false),
+            5 => field(30, 37, Kind::WholeNumber(0, 99999999), false, false),
+            _ => field(38, 38, Kind::Index, false, false),
         }
     } else {
         match j {
-            7 => Row { first: 39, last: 42, kind: Kind::WholeNumber(1, 9999), blank: false, free: false },
-            8 => Row { first: 43, last: 46, kind: Kind::WholeNumber(1, 9999), blank: false, free: false },
-            9 => Row { first: 47, last: 47, kind: Kind::Index, blank: false, free: false },
-            10 => Row { first: 48, last: 63, kind: Kind::StartsNonBlank, blank: false, free: false },
-            11 => Row { first: 64, last: 71, kind: Kind::WholeNumber(0, 99999999), blank: false, free: false },
-            12 => Row { first: 72, last: 79, kind: Kind::WholeNumber(0, 99999999), blank: false, free: false },
-            _ => Row { first: 80, last: 80, kind: Kind::Index, blank: false, free: false },
+            7 => field(39, 42, Kind::WholeNumber(1, 9999), false, false),
+            8 => field(43, 46, Kind::WholeNumber(1, 9999), false, false),
+            9 => field(47, 47, Kind::Index, false, false),
+            10 => field(48, 63, Kind::StartsNonBlank, false, false),
+            11 => field(64, 71, Kind::WholeNumber(0, 99999999), false, false),
+            12 => field(72, 79, Kind::WholeNumber(0, 99999999), false, false),
+            _ => field(80, 80, Kind::Index, false, false),
         }
     }
 }
