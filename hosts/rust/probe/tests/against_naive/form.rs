@@ -50,12 +50,19 @@ fn damage(random: &mut Random, mut file: Vec<u8>) -> Vec<u8> {
     }
     let place = random.below(file.len());
     let line = place / WIDTH * WIDTH;
-    match random.below(8) {
+    match random.below(9) {
         0 => file[place] = random.bytes(1)[0],
         1 => file.truncate(place),
         2 => file[line] = random.pick(b"HRSX"),
         // A header line somewhere.
         3 => drop(file.splice(line..line, bytes([header(0)]))),
+        // Another end of the line.
+        4 => {
+            let column = 80 + random.below(2);
+            if let Some(byte) = file.get_mut(line + column) {
+                *byte = random.pick(b" \r\n");
+            }
+        }
         // Digits all over are a fault of a field, or numbers that do not agree.
         _ => file[place] = random.pick(b"0123456789"),
     }
