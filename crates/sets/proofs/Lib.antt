@@ -1,0 +1,4 @@
+pub mod Answers
+pub mod Tally
+pub mod One
+pub mod Demands
