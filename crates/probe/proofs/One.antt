@@ -7,6 +7,8 @@ use Rattle.probe.proofs.probe_line as probe-line
 use Rattle.probe.proofs.probe_line.Reads as probe-line-reads
 use Rattle.probe.proofs.probe_form as probe-form
 use Rattle.probe.proofs.probe_form.Reads as probe-form-reads
+use Rattle.probe.proofs.probe_check as probe-check
+use Rattle.probe.proofs.probe_check.Reads as probe-check-reads
 use Rattle.probe.proofs.probe_point as probe-point
 use Rattle.probe.proofs.probe_point.Reads as probe-point-reads
 use Rattle.probe.proofs.probe_relation as probe-relation
@@ -26,3 +28,6 @@ probe-point-one κs a v v′ w w′ p p′ = (refl, both refl (both (p .0 ∙ sy
 
 pub probe-relation-one : One probe-relation.ended probe-relation-reads.Post
 probe-relation-one κs a v v′ w w′ p p′ = (refl, both refl (both (p ∙ sym p′) refl))
+
+pub probe-check-one : One probe-check.ended probe-check-reads.Post
+probe-check-one κs a v v′ w w′ p p′ = (p .0 ∙ sym (p′ .0), both refl (both refl (both refl (both (p .1 ∙ sym (p′ .1)) refl))))

@@ -1,4 +1,4 @@
-// Calls for the tests of the hosts: what a line shows, what a line or a file is refused for, and the values of a line. They
+// Calls for the tests of the hosts: what a line shows, what a line, a file or a set is refused for, and the values of a line. They
 // only carry over to numbers and slices what the readers answer.
 ghost use mathlib.Core.Path.{_≡_};
 ghost use lib.ListN.{length};
@@ -9,14 +9,16 @@ ghost use Rattle.rules.specs.Form.{form as formOf};
 ghost use Rattle.rules.specs.Show.{show as showOf};
 ghost use Rattle.rules.specs.Points.{point as pointValues};
 ghost use Rattle.rules.specs.Relations.{relation as relationValues};
+ghost use Rattle.rules.specs.Check.{check as checkOf};
 ghost use Rattle.lines.specs.Paper.{paper};
 ghost use Rattle.records.specs.Coded.{codedPoint, codedRelation};
 ghost use Rattle.form.specs.Steps.{fieldsOf};
-ghost use Rattle.probe.specs.Host.{over, told as toldOf};
+ghost use Rattle.probe.specs.Host.{over, told as toldOf, answered, counted};
 ghost use Rattle.probe.specs.Values.{pointNumbers, pointSigned, relationNumbers};
 use lines::Verdict;
 use records::point;
 use records::relation;
+use sets::Answer;
 
 mod values;
 
@@ -78,6 +80,21 @@ pub extern "C" fn probe_form(f: &[u8], i: u8) -> u64
     ensures verdict { λ n. ⌜ n ≡ toldOf (run (formOf i (file (now (f .entry))))) ⌝ }
 {
     told(form::form(f, i))
+}
+
+// Checks a set: 0, with receivers, shots, relation lines and traces in counts, or what it is refused for.
+#[no_mangle]
+pub extern "C" fn probe_check(r: &[u8], s: &[u8], x: &[u8], counts: &mut [u64; 4]) -> u64
+    ensures answer { λ n. ⌜ n ≡ answered (checkOf (file (now (r .entry))) (file (now (s .entry))) (file (now (x .entry)))) ⌝ }
+    ensures written { λ _. ⌜ now (counts .exit) ≡ counted (checkOf (file (now (r .entry))) (file (now (s .entry))) (file (now (x .entry)))) (now (counts .entry)) ⌝ }
+{
+    match sets::check(r, s, x) {
+        Answer::Accepted(n, m, k, t) => {
+            *counts = [n, m, k, t];
+            0
+        }
+        Answer::Refused(n, f, l, c) => told(Verdict::Refused(n, f, l, c)),
+    }
 }
 
 // The values of a point line.
