@@ -1,6 +1,6 @@
 //! Whole files: 1 to 6 in their order.
 
-use crate::run::{random, turns};
+use many_sets::run::{random, turns};
 use naive::{check, File};
 use probe::Refusal;
 use small_sets::{header, marker, receiver, relation, shot, Line, Random};

@@ -1,21 +1,9 @@
 //! Header lines, which every file has.
 
 use crate::compare::compare;
-use crate::damage::Fields;
-use crate::numbers::text;
 use crate::run::{damaged, first_columns, valid};
+use many_sets::lines::{header, OF_HEADERS};
 use naive::File;
-use small_sets::{Line, Random};
-
-const FIELDS: Fields = &[(2, 3), (4, 4)];
-
-fn header(random: &mut Random) -> Line {
-    Line([b' '; 80])
-        .at(1, "H")
-        .at(2, &format!("{:02}", random.below(100)))
-        .at(4, &char::from(random.pick(b" 0123456789")).to_string())
-        .at(5, &text(random, 76))
-}
 
 /// H alone makes a header line: below any other letter this one lacks a number.
 #[test]
@@ -33,6 +21,6 @@ fn letters() {
 fn headers() {
     for (file, salt) in [(File::R, 8), (File::S, 9), (File::X, 10)] {
         valid(file, salt, header);
-        damaged(file, salt, header, FIELDS, &first_columns(FIELDS));
+        damaged(file, salt, header, OF_HEADERS, &first_columns(OF_HEADERS));
     }
 }

@@ -4,10 +4,8 @@
 //! `PROBE_SEED` gives another seed, and `PROBE_TIMES` so many times the lines.
 
 mod compare;
-mod damage;
 mod form;
 mod headers;
-mod numbers;
 mod points;
 mod relations;
 mod run;

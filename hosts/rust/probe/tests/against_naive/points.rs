@@ -1,90 +1,26 @@
 //! Point lines of R and S, markers among them.
 
 use crate::compare::compare;
-use crate::damage::Fields;
-use crate::numbers::{decimal, index, name, or_blank, text, whole};
-use crate::run::{damaged, first_columns, random, valid};
+use crate::run::{damaged, first_columns, valid};
+use many_sets::lines::{codes, marker, point, OF_POINTS};
+use many_sets::run::random;
 use naive::File;
 use small_sets::{Line, Random};
 
-const FIELDS: Fields = &[
-    (2, 17),
-    (18, 25),
-    (26, 26),
-    (27, 28),
-    (29, 32),
-    (33, 36),
-    (37, 40),
-    (41, 42),
-    (43, 46),
-    (47, 55),
-    (56, 65),
-    (66, 71),
-    (72, 74),
-    (75, 80),
-];
-
-/// A point line of a file, by its letter and those of its codes.
-fn point(random: &mut Random, letter: &str, codes: &[u8]) -> Line {
-    let code = match random.below(10) {
-        0 => "KL".to_owned(),
-        _ => [random.pick(codes), random.pick(b"123456789")].map(char::from).iter().collect(),
-    };
-    let number = whole(random, 8, 0..=99_999_999);
-    let line = common(random, letter, &code).at(18, &number);
-    let static_correction = whole(random, 4, -999..=999);
-    let uphole = whole(random, 2, 0..=99);
-    let water_depth = match random.below(2) {
-        0 => decimal(random, 4, 0..=999),
-        _ => whole(random, 4, 0..=999),
-    };
-    line.at(29, &or_blank(random, static_correction))
-        .at(33, &decimal(random, 4, 0..=999))
-        .at(37, &whole(random, 4, -999..=9_999))
-        .at(41, &or_blank(random, uphole))
-        .at(43, &or_blank(random, water_depth))
-        .at(72, &whole(random, 3, 1..=999))
-        .at(75, &time(random))
-}
-
-/// A marker: its other columns are free text.
-fn marker(random: &mut Random, letter: &str) -> Line {
-    common(random, letter, "PM")
-        .at(18, &text(random, 8))
-        .at(29, &text(random, 18))
-        .at(72, &text(random, 9))
-}
-
-/// What is checked in a marker too.
-fn common(random: &mut Random, letter: &str, code: &str) -> Line {
-    Line([b' '; 80])
-        .at(1, letter)
-        .at(2, &name(random, 16))
-        .at(26, &index(random))
-        .at(27, code)
-        .at(47, &decimal(random, 9, -9_999_999..=99_999_999))
-        .at(56, &decimal(random, 10, -99_999_999..=999_999_999))
-        .at(66, &decimal(random, 6, -9_999..=99_999))
-}
-
-fn time(random: &mut Random) -> String {
-    format!("{:02}{:02}{:02}", random.below(24), random.below(60), random.below(60))
-}
-
 /// One line in eight is a marker.
-fn line(random: &mut Random, letter: &str, codes: &[u8]) -> Line {
+fn line(random: &mut Random, file: small_sets::File) -> Line {
     match random.below(8) {
-        0 => marker(random, letter),
-        _ => point(random, letter, codes),
+        0 => marker(random, file),
+        _ => point(random, file),
     }
 }
 
 fn receiver(random: &mut Random) -> Line {
-    line(random, "R", b"GHR")
+    line(random, small_sets::File::R)
 }
 
 fn shot(random: &mut Random) -> Line {
-    line(random, "S", b"VEAWS")
+    line(random, small_sets::File::S)
 }
 
 #[test]
@@ -99,20 +35,20 @@ fn shots() {
 
 #[test]
 fn damaged_receivers() {
-    damaged(File::R, 3, receiver, FIELDS, &first_columns(FIELDS));
+    damaged(File::R, 3, receiver, OF_POINTS, &first_columns(OF_POINTS));
 }
 
 #[test]
 fn damaged_shots() {
-    damaged(File::S, 4, shot, FIELDS, &first_columns(FIELDS));
+    damaged(File::S, 4, shot, OF_POINTS, &first_columns(OF_POINTS));
 }
 
 /// The codes of the other file, and those of no file.
 #[test]
-fn codes() {
+fn each_code() {
     let mut random = random(5);
-    for (file, letter, codes) in [(File::R, "R", b"GHR".as_slice()), (File::S, "S", b"VEAWS")] {
-        let line = point(&mut random, letter, codes);
+    for (file, letter) in [(File::R, small_sets::File::R), (File::S, small_sets::File::S)] {
+        let line = point(&mut random, letter);
         let mut taken = 0;
         for first in 0..=255 {
             for second in 0..=255 {
@@ -121,6 +57,6 @@ fn codes() {
                 taken += usize::from(compare(file, line).is_ok());
             }
         }
-        assert_eq!(taken, 9 * codes.len() + 2, "{file:?}");
+        assert_eq!(taken, 9 * codes(letter).len() + 2, "{file:?}");
     }
 }

@@ -1,28 +1,11 @@
-//! How long a test runs, and on what: valid lines, then damaged ones.
+//! What a test runs on: valid lines, then damaged ones.
 
 use crate::compare::compare;
-use crate::damage::{damage, Fields};
+use many_sets::damage::{damage, Fields};
+use many_sets::run::{random, turns};
 use naive::{Fault, File};
 use small_sets::{Line, Random};
 use std::collections::BTreeSet;
-use std::env;
-
-/// The generator of a test; tests differ by their `salt`.
-pub fn random(salt: u64) -> Random {
-    Random::new(setting("PROBE_SEED", 0x5eed).wrapping_mul(256).wrapping_add(salt))
-}
-
-/// How many turns a run takes for so many of a short one.
-pub fn turns(short: u64) -> u64 {
-    short * setting("PROBE_TIMES", 1)
-}
-
-fn setting(name: &str, default: u64) -> u64 {
-    match env::var(name) {
-        Ok(text) => text.parse().unwrap_or_else(|_| panic!("{name} is no number: {text}")),
-        Err(_) => default,
-    }
-}
 
 /// Valid lines: both readers take each of them.
 pub fn valid(file: File, salt: u64, line: impl Fn(&mut Random) -> Line) {

@@ -1,6 +1,6 @@
 //! Showing a line of random files, whole lines or not.
 
-use crate::run::{random, turns};
+use many_sets::run::{random, turns};
 use small_sets::Random;
 
 /// A line number: 0, within the file, its last, just beyond it, far beyond it.
