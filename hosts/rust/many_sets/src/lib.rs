@@ -1,11 +1,14 @@
 //! Lines and sets made from a seed: sound ones, and what can be wrong with them.
 //!
 //! `run` gives the seed and the length of a run. `fields` and `lines` make what
-//! stands in one line, `damage` changes it.
+//! stands in one line, `damage` changes it. `sound` makes whole sets, `faults`
+//! changes them.
 
 #![forbid(unsafe_code)]
 
 pub mod damage;
+pub mod faults;
 pub mod fields;
 pub mod lines;
 pub mod run;
+pub mod sound;

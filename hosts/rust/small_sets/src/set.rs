@@ -67,12 +67,17 @@ impl Set {
         self.file(file).len() / 82
     }
 
+    /// The columns of a line.
+    pub fn line(&self, file: File, line: usize) -> Line {
+        let columns = &self.file(file)[(line - 1) * 82..];
+        Line(std::array::from_fn(|at| columns[at]))
+    }
+
     /// A line changed as a whole.
     pub fn edit(mut self, file: File, line: usize, change: impl FnOnce(Line) -> Line) -> Set {
         let start = (line - 1) * 82;
-        let columns = &mut self.file_mut(file)[start..start + 80];
-        let before = Line(std::array::from_fn(|at| columns[at]));
-        columns.copy_from_slice(&change(before).0);
+        let Line(after) = change(self.line(file, line));
+        self.file_mut(file)[start..start + 80].copy_from_slice(&after);
         self
     }
 

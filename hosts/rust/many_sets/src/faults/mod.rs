@@ -1,0 +1,68 @@
+//! What can be wrong with a set: each way changes one thing, wrong or not.
+
+mod files;
+mod headers;
+mod lines;
+mod relations;
+mod values;
+
+use small_sets::{File, Random, Set};
+
+/// A name, and what changes a set. Where it finds nothing to change the set stays.
+pub type Way = (&'static str, fn(&mut Random, Set) -> Set);
+
+pub const WAYS: [Way; 24] = [
+    ("a byte of any value", files::any_byte),
+    ("a byte of lines", files::byte_of_lines),
+    ("the end of a line", files::line_end),
+    ("fewer bytes", files::fewer),
+    ("more bytes", files::more),
+    ("a line dropped", lines::dropped),
+    ("a line repeated", lines::repeated),
+    ("lines swapped", lines::swapped),
+    ("a line moved", lines::moved),
+    ("another letter", lines::letter),
+    ("a field", values::field),
+    ("columns of another line", values::copied),
+    ("a number moved", values::moved),
+    ("a name changed by a blank", values::blank),
+    ("a column of 1 to 9", values::digit),
+    ("another code", values::code),
+    ("a shot's moment", values::moment),
+    ("one receiver more or less", relations::wider),
+    ("receivers covered again", relations::again),
+    ("a record again", relations::record),
+    ("a shot or a receiver named", relations::named),
+    ("a header line dropped", headers::dropped),
+    ("a header line in all files", headers::in_all),
+    ("a header line in one file", headers::in_one),
+];
+
+/// A set with one thing changed, and the name of the way.
+pub fn damage(random: &mut Random, set: Set) -> (Set, &'static str) {
+    let (name, change) = random.pick(&WAYS);
+    (change(random, set), name)
+}
+
+/// One of the files.
+fn file(random: &mut Random) -> File {
+    random.pick(&File::ALL)
+}
+
+/// The number of header lines of a file.
+fn headers_of(set: &Set, file: File) -> usize {
+    set.file(file).chunks_exact(82).take_while(|line| line[0] == b'H').count()
+}
+
+/// One of a file's own lines.
+fn own_line(random: &mut Random, set: &Set, file: File) -> Option<usize> {
+    let headers = headers_of(set, file);
+    let own = set.lines(file) - headers;
+    (own > 0).then(|| headers + 1 + random.below(own))
+}
+
+/// Two lines of a file, each in the other's place.
+fn swap(set: Set, file: File, one: usize, other: usize) -> Set {
+    let texts = [set.line(file, one), set.line(file, other)];
+    set.edit(file, one, |_| texts[1]).edit(file, other, |_| texts[0])
+}

@@ -1,0 +1,103 @@
+//! Relation lines that stay in form, and name or cover something else.
+
+use super::values::{number, put};
+use super::{headers_of, own_line};
+use small_sets::File::{R, S, X};
+use small_sets::{Line, Random, Set};
+
+const FROM_CHANNEL: (usize, usize) = (39, 42);
+const TO_CHANNEL: (usize, usize) = (43, 46);
+const FROM_RECEIVER: (usize, usize) = (64, 71);
+const TO_RECEIVER: (usize, usize) = (72, 79);
+
+/// The channels of a line and its components, where it has them.
+fn channels(line: &Line) -> Option<(u32, u32, u32)> {
+    let components = number(line, (47, 47)).unwrap_or(1);
+    Some((number(line, FROM_CHANNEL)?, number(line, TO_CHANNEL)?, components))
+}
+
+/// One receiver more or less at the end, or one more before the first.
+pub fn wider(random: &mut Random, set: Set) -> Set {
+    let Some(at) = own_line(random, &set, X) else { return set };
+    let line = set.line(X, at);
+    match widened(random, line) {
+        Some(line) => set.edit(X, at, |_| line),
+        None => set,
+    }
+}
+
+fn widened(random: &mut Random, line: Line) -> Option<Line> {
+    let (_, to, components) = channels(&line)?;
+    let (first, last) = (number(&line, FROM_RECEIVER)?, number(&line, TO_RECEIVER)?);
+    Some(match random.below(3) {
+        0 => put(put(line, TO_CHANNEL, to + components), TO_RECEIVER, last + 1),
+        1 => put(put(line, TO_CHANNEL, to + components), FROM_RECEIVER, first.checked_sub(1)?),
+        _ => put(
+            put(line, TO_CHANNEL, to.checked_sub(components)?),
+            TO_RECEIVER,
+            last.checked_sub(1)?,
+        ),
+    })
+}
+
+/// A relation line again at the end of its record, on channels of its own; at
+/// times with its first receiver only.
+pub fn again(random: &mut Random, set: Set) -> Set {
+    let Some(at) = own_line(random, &set, X) else { return set };
+    let line = set.line(X, at);
+    let tape_and_record = |at| set.line(X, at).0[1..11].to_vec();
+    let mut last = at;
+    while last < set.lines(X) && tape_and_record(last + 1) == tape_and_record(at) {
+        last += 1;
+    }
+    let (Some((from, to, components)), Some((_, before, _))) =
+        (channels(&line), channels(&set.line(X, last)))
+    else {
+        return set;
+    };
+    let (to, to_receiver) = match random.below(2) {
+        0 => (to, number(&line, TO_RECEIVER)),
+        _ => (from + components - 1, number(&line, FROM_RECEIVER)),
+    };
+    let (Some(length), Some(to_receiver)) = (to.checked_sub(from), to_receiver) else { return set };
+    let line = put(put(line, FROM_CHANNEL, before + 1), TO_CHANNEL, before + 1 + length);
+    set.insert(X, last + 1, put(line, TO_RECEIVER, to_receiver))
+}
+
+/// The tape and record of any line above, or of the line just above.
+pub fn record(random: &mut Random, set: Set) -> Set {
+    let headers = headers_of(&set, X);
+    let Some(at) = own_line(random, &set, X).filter(|&at| at > headers + 1) else { return set };
+    let from = match random.below(2) {
+        0 => at - 1,
+        _ => headers + 1 + random.below(at - headers - 1),
+    };
+    let Line(above) = set.line(X, from);
+    set.edit(X, at, |mut line| {
+        line.0[1..11].copy_from_slice(&above[1..11]);
+        line
+    })
+}
+
+/// The source becomes any shot, or the receivers one receiver.
+pub fn named(random: &mut Random, set: Set) -> Set {
+    let file = random.pick(&[R, S]);
+    let (Some(at), Some(point)) = (own_line(random, &set, X), own_line(random, &set, file)) else {
+        return set;
+    };
+    let Line(point) = set.line(file, point);
+    set.edit(X, at, |mut line| {
+        if file == S {
+            line.0[13..38].copy_from_slice(&point[1..26]);
+            return line;
+        }
+        line.0[47..63].copy_from_slice(&point[1..17]);
+        line.0[63..71].copy_from_slice(&point[17..25]);
+        line.0[71..79].copy_from_slice(&point[17..25]);
+        line.0[79] = point[25];
+        match channels(&line) {
+            Some((from, _, components)) => put(line, TO_CHANNEL, from + components - 1),
+            None => line,
+        }
+    })
+}

@@ -1,0 +1,57 @@
+//! Sound sets of varied shape, with what they hold.
+
+mod headers;
+mod names;
+mod points;
+mod relations;
+mod shape;
+
+use crate::lines::marker;
+use points::{receivers, shots};
+use relations::relations;
+use small_sets::{File, Line, Random, Set};
+
+/// A sound set, and its receivers, shots, relation lines and traces.
+pub struct Sound {
+    pub set: Set,
+    pub counts: [u64; 4],
+}
+
+/// A set that the paper accepts.
+pub fn sound(random: &mut Random) -> Sound {
+    let names = names::of_lines(random);
+    let receivers = receivers(random, &names);
+    let shots = if receivers.is_empty() { Vec::new() } else { shots(random, &names) };
+    let relations = relations(random, &receivers, &shots);
+    let counts = [
+        receivers.len() as u64,
+        shots.len() as u64,
+        relations.len() as u64,
+        relations.iter().map(|relation| relation.traces()).sum(),
+    ];
+    let r = receivers.iter().map(|place| place.point(random, File::R)).collect();
+    let s = points::in_time(random, &shots);
+    let x: Vec<Line> = relations.iter().map(|relation| relation.line(random)).collect();
+    let block = headers::block(random);
+    let set = Set::default()
+        .each(|set, file| set.add_all(file, block.iter().copied()))
+        .add_all(File::R, with_markers(random, File::R, r))
+        .add_all(File::S, with_markers(random, File::S, s))
+        .add_all(File::X, x);
+    Sound { set, counts }
+}
+
+/// Markers anywhere among the points.
+fn with_markers(random: &mut Random, file: File, mut lines: Vec<Line>) -> Vec<Line> {
+    for _ in 0..random.below(3) {
+        let at = random.below(lines.len() + 1);
+        let line = marker(random, file);
+        // One that stands as if it were the point beside it.
+        let line = match lines.get(at) {
+            Some(beside) if random.below(2) == 0 => beside.code("PM"),
+            _ => line,
+        };
+        lines.insert(at, line);
+    }
+    lines
+}
