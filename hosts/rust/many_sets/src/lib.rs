@@ -2,13 +2,14 @@
 //!
 //! `run` gives the seed and the length of a run. `fields` and `lines` make what
 //! stands in one line, `damage` changes it. `sound` makes whole sets, `faults`
-//! changes them.
+//! changes them; `large` has those of full size.
 
 #![forbid(unsafe_code)]
 
 pub mod damage;
 pub mod faults;
 pub mod fields;
+pub mod large;
 pub mod lines;
 pub mod run;
 pub mod sound;

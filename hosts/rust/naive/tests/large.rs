@@ -1,25 +1,12 @@
 //! A set near the limits: 9,999 lines a file and some two million traces.
 
+use many_sets::large;
 use naive::{channel, check, spread, trace, Counts, Trace};
-use small_sets::{headers_only, receiver, relation, shot, File, Set};
-
-/// 9,978 receivers, shots and records; record n covers 200 receivers from its own on.
-fn large() -> Set {
-    let numbers = 0..9_978;
-    let lines = |n: u32| {
-        let from = n.min(9_778);
-        let line = relation().source(n).record(n).channels(1, 200);
-        line.receivers(from, from + 199)
-    };
-    headers_only()
-        .add_all(File::R, numbers.clone().map(receiver))
-        .add_all(File::S, numbers.clone().map(shot))
-        .add_all(File::X, numbers.map(lines))
-}
+use small_sets::Set;
 
 #[test]
 fn two_million_traces() {
-    let Set { r, s, x } = large();
+    let Set { r, s, x } = large::two_million_traces();
     let counts = Counts { receivers: 9_978, shots: 9_978, relations: 9_978, traces: 1_995_600 };
     assert_eq!(check(&r, &s, &x), Ok(counts));
     let tape = b"100   ";
