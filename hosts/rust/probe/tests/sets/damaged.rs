@@ -1,0 +1,55 @@
+//! Sound sets, then with one thing changed, then with two or three.
+
+use crate::compare::{compare, Tally};
+use many_sets::faults::damage;
+use many_sets::run::{random, turns};
+use many_sets::sound::sound;
+use probe::Counts;
+
+/// The naive reader, the proved one and the maker of a set agree on what it holds.
+#[test]
+fn sound_sets() {
+    let mut random = random(30);
+    for _ in 0..turns(20_000) {
+        let made = sound(&mut random);
+        let [receivers, shots, relations, traces] = made.counts;
+        let counts = Counts { receivers, shots, relations, traces };
+        assert_eq!(compare(&made.set, "a sound set"), Ok(counts), "as it is made");
+    }
+}
+
+/// Sets with so many changes.
+fn changed(salt: u64, sets: u64, changes: usize) {
+    let mut random = random(salt);
+    let mut tally = Tally::default();
+    for _ in 0..turns(sets / 8) {
+        let made = sound(&mut random);
+        for _ in 0..8 {
+            let mut set = made.set.clone();
+            let mut ways = Vec::new();
+            for _ in 0..changes {
+                let way;
+                (set, way) = damage(&mut random, set);
+                ways.push(way);
+            }
+            tally.count(compare(&set, &ways.join(", then ")));
+        }
+    }
+    tally.holds(1..=19, 20);
+}
+
+#[test]
+fn one_change() {
+    changed(31, 80_000, 1);
+}
+
+/// Which of two faults is named.
+#[test]
+fn two_changes() {
+    changed(32, 80_000, 2);
+}
+
+#[test]
+fn three_changes() {
+    changed(33, 40_000, 3);
+}

@@ -1,0 +1,42 @@
+//! Lengths: each number of bytes up to a line more or less.
+
+use crate::compare::{compare, Tally};
+use many_sets::run::{random, turns};
+use many_sets::sound::sound;
+use probe::Refusal;
+use small_sets::{set_a, File};
+
+#[test]
+fn each_length() {
+    let mut random = random(35);
+    let mut tally = Tally::default();
+    for _ in 0..turns(20) {
+        let made = sound(&mut random).set;
+        for file in File::ALL {
+            let length = made.file(file).len();
+            for by in 0..=82 {
+                let shorter = made.clone().cut(file, length - by);
+                tally.count(compare(&shorter, &format!("{file:?} of {by} bytes less")));
+                let longer = made.clone().over(file, by);
+                tally.count(compare(&longer, &format!("{file:?} of {by} bytes more")));
+            }
+        }
+    }
+    tally.holds([1, 3], 20);
+}
+
+/// No byte at all, and each length up to two lines.
+#[test]
+fn short_files() {
+    for file in File::ALL {
+        for length in 0..=164 {
+            let set = set_a().cut(file, length);
+            let answer = compare(&set, &format!("{file:?} of {length} bytes"));
+            let line = length as u64 / 82 + 1;
+            if length % 82 > 0 {
+                let refusal = Refusal { number: 1, file: file as u64, line, column: 0 };
+                assert_eq!(answer, Err(refusal));
+            }
+        }
+    }
+}

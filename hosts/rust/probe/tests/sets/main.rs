@@ -1,0 +1,15 @@
+//! The proved set check and the naive reader get the same sets, and answer the
+//! same: some 270,000 sound and damaged ones, the table, the examples, and sets
+//! of 9,999 lines a file.
+//!
+//! `PROBE_SEED` gives another seed, and `PROBE_TIMES` so many times the sets. A
+//! set on which they differ is kept below cargo's directory for tests.
+
+mod answers;
+mod columns;
+mod compare;
+mod damaged;
+mod examples;
+mod full;
+mod lengths;
+mod table;
