@@ -17,12 +17,24 @@ pub struct Sound {
     pub counts: [u64; 4],
 }
 
-/// A set that the paper accepts.
+/// How many numbers follow each other in R, how many shots there are, and how
+/// many receivers a relation line covers, each at most.
+struct Size {
+    run: usize,
+    shots: usize,
+    covered: u32,
+}
+
+const SMALL: Size = Size { run: 5, shots: 4, covered: 6 };
+const WIDE: Size = Size { run: 300, shots: 60, covered: 300 };
+
+/// A set that the paper accepts; most are small.
 pub fn sound(random: &mut Random) -> Sound {
+    let size = if random.below(100) == 0 { WIDE } else { SMALL };
     let names = names::of_lines(random);
-    let receivers = receivers(random, &names);
-    let shots = if receivers.is_empty() { Vec::new() } else { shots(random, &names) };
-    let relations = relations(random, &receivers, &shots);
+    let receivers = receivers(random, &size, &names);
+    let shots = if receivers.is_empty() { Vec::new() } else { shots(random, &size, &names) };
+    let relations = relations(random, &size, &receivers, &shots);
     let counts = [
         receivers.len() as u64,
         shots.len() as u64,

@@ -1,6 +1,7 @@
 //! Receivers in their order, and shots in time.
 
 use super::shape::{any_digit, Place};
+use super::Size;
 use crate::lines::time;
 use small_sets::{File, Line, Random};
 use std::collections::BTreeSet;
@@ -9,16 +10,16 @@ use std::collections::BTreeSet;
 const HIGHEST: usize = 99_999_999;
 
 /// Up to two runs of numbers on each line, each number with one index or more.
-pub fn receivers(random: &mut Random, names: &[String]) -> BTreeSet<Place> {
+pub fn receivers(random: &mut Random, size: &Size, names: &[String]) -> BTreeSet<Place> {
     let mut places = BTreeSet::new();
     for name in names {
         for _ in 0..random.below(3) {
-            let length = 1 + random.below(5);
+            let length = 1 + random.below(size.run);
             let first = first_number(random, length);
             let indices: Vec<u8> = (0..1 + random.below(3)).map(|_| any_digit(random)).collect();
             for number in first..first + length as u32 {
                 // At times a number lacks its index.
-                for &index in indices.iter().filter(|_| random.below(8) > 0) {
+                for &index in indices.iter().filter(|_| random.below(2 * size.run) > 0) {
                     places.insert(Place { name: name.clone(), number, index });
                 }
             }
@@ -39,10 +40,10 @@ fn first_number(random: &mut Random, length: usize) -> u32 {
     start as u32
 }
 
-/// Up to four shots, no two alike, in any order.
-pub fn shots(random: &mut Random, names: &[String]) -> Vec<Place> {
+/// Shots of which no two are alike, in any order.
+pub fn shots(random: &mut Random, size: &Size, names: &[String]) -> Vec<Place> {
     let mut shots: Vec<Place> = Vec::new();
-    for _ in 0..random.below(5) {
+    for _ in 0..random.below(size.shots + 1) {
         let name = names[random.below(names.len())].clone();
         let number = first_number(random, 1);
         let shot = Place { name, number, index: any_digit(random) };

@@ -2,6 +2,7 @@
 
 use super::names::tape;
 use super::shape::{any_digit, Place, Record, Relation};
+use super::Size;
 use small_sets::Random;
 use std::collections::BTreeSet;
 
@@ -11,6 +12,7 @@ const HIGHEST: u32 = 9_999;
 /// One record or two for each shot, no two of the same tape and number.
 pub fn relations(
     random: &mut Random,
+    size: &Size,
     receivers: &BTreeSet<Place>,
     shots: &[Place],
 ) -> Vec<Relation> {
@@ -24,7 +26,7 @@ pub fn relations(
                 let (increment, instrument) = (any_digit(random), any_digit(random));
                 let source = source.clone();
                 let record = Record { tape, number, increment, instrument, source };
-                relations.extend(lines_of(random, record, receivers));
+                relations.extend(lines_of(random, size, record, receivers));
                 wanted -= 1;
             }
         }
@@ -42,7 +44,12 @@ fn record_number(random: &mut Random) -> u32 {
 
 /// One line or more of a record: channels ascend, receivers come in any order
 /// and each at most once.
-fn lines_of(random: &mut Random, record: Record, receivers: &BTreeSet<Place>) -> Vec<Relation> {
+fn lines_of(
+    random: &mut Random,
+    size: &Size,
+    record: Record,
+    receivers: &BTreeSet<Place>,
+) -> Vec<Relation> {
     let mut lines: Vec<Relation> = Vec::new();
     let mut left = receivers.clone();
     let mut from_channel = first_channel(random);
@@ -50,7 +57,7 @@ fn lines_of(random: &mut Random, record: Record, receivers: &BTreeSet<Place>) ->
         let Some(first) = left.iter().nth(random.below(left.len().max(1))).cloned() else { break };
         let room = HIGHEST + 1 - from_channel;
         let components = u32::from(any_digit(random)).min(room);
-        let most = 1 + random.below((room / components).min(6) as usize) as u32;
+        let most = 1 + random.below((room / components).min(size.covered) as usize) as u32;
         let number = |at| Place { number: first.number + at, ..first.clone() };
         let receivers = (0..most).take_while(|&at| left.remove(&number(at))).count() as u32;
         let line = Relation { record: record.clone(), from_channel, components, first, receivers };
