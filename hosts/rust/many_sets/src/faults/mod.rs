@@ -11,7 +11,7 @@ use small_sets::{File, Random, Set};
 /// A name, and what changes a set. Where it finds nothing to change the set stays.
 pub type Way = (&'static str, fn(&mut Random, Set) -> Set);
 
-pub const WAYS: [Way; 24] = [
+pub const WAYS: [Way; 26] = [
     ("a byte of any value", files::any_byte),
     ("a byte of lines", files::byte_of_lines),
     ("the end of a line", files::line_end),
@@ -29,10 +29,12 @@ pub const WAYS: [Way; 24] = [
     ("a column of 1 to 9", values::digit),
     ("another code", values::code),
     ("a shot's moment", values::moment),
+    ("a shot more", values::more_shots),
     ("one receiver more or less", relations::wider),
     ("receivers covered again", relations::again),
     ("a record again", relations::record),
     ("a shot or a receiver named", relations::named),
+    ("channels or receivers crossed", relations::crossed),
     ("a header line dropped", headers::dropped),
     ("a header line in all files", headers::in_all),
     ("a header line in one file", headers::in_one),

@@ -101,3 +101,17 @@ pub fn named(random: &mut Random, set: Set) -> Set {
         }
     })
 }
+
+/// The ends of the channels or of the receivers crossed, at times with another
+/// increment.
+pub fn crossed(random: &mut Random, set: Set) -> Set {
+    let Some(at) = own_line(random, &set, X) else { return set };
+    set.edit(X, at, |mut line| {
+        let (first, width) = random.pick(&[(38, 4), (63, 8)]);
+        line.0[first..first + 2 * width].rotate_left(width);
+        match random.below(2) {
+            0 => line.increment(random.pick(&["2", "3", "7"])),
+            _ => line,
+        }
+    })
+}

@@ -133,3 +133,10 @@ pub fn moment(random: &mut Random, set: Set) -> Set {
         _ => line.time(random.pick(&["000000", "000001", "071244", "071246", "235958", "235959"])),
     })
 }
+
+/// A shot more, beside another one and at its time.
+pub fn more_shots(random: &mut Random, set: Set) -> Set {
+    let Some(beside) = own_line(random, &set, File::S) else { return set };
+    let shot = set.line(File::S, beside).point(random.below(20) as u32);
+    set.insert(File::S, beside + random.below(2), shot)
+}

@@ -17,16 +17,17 @@ pub struct Sound {
     pub counts: [u64; 4],
 }
 
-/// How many numbers follow each other in R, how many shots there are, and how
-/// many receivers a relation line covers, each at most.
+/// How many numbers follow each other in R, how many shots there are, how many
+/// lines a record has, and how many receivers each covers, all at most.
 struct Size {
     run: usize,
     shots: usize,
+    lines: usize,
     covered: u32,
 }
 
-const SMALL: Size = Size { run: 5, shots: 4, covered: 6 };
-const WIDE: Size = Size { run: 300, shots: 60, covered: 300 };
+const SMALL: Size = Size { run: 5, shots: 4, lines: 4, covered: 6 };
+const WIDE: Size = Size { run: 300, shots: 40, lines: 20, covered: 300 };
 
 /// A set that the paper accepts; most are small.
 pub fn sound(random: &mut Random) -> Sound {

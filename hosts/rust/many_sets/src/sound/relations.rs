@@ -53,7 +53,7 @@ fn lines_of(
     let mut lines: Vec<Relation> = Vec::new();
     let mut left = receivers.clone();
     let mut from_channel = first_channel(random);
-    for _ in 0..1 + random.below(4) {
+    for _ in 0..1 + random.below(size.lines) {
         let Some(first) = left.iter().nth(random.below(left.len().max(1))).cloned() else { break };
         let room = HIGHEST + 1 - from_channel;
         let components = u32::from(any_digit(random)).min(room);
