@@ -9,7 +9,7 @@
 mod answers;
 
 use answers::{naive, proved, Answer};
-use many_sets::large::{survey, two_million_traces, Large, HOSTILE};
+use many_sets::large::{survey, two_million_traces, Large, HOSTILE, WIDEST};
 use small_sets::Set;
 use std::env;
 use std::time::{Duration, Instant};
@@ -30,7 +30,7 @@ fn main() {
         "{:52}{:>28}{:>10}{:>10}{:>8}{:>8}",
         "", "answer", "naive ms", "proved", "MB/s", "ratio"
     );
-    for (name, make) in COMMON.into_iter().chain(HOSTILE) {
+    for (name, make) in COMMON.into_iter().chain(HOSTILE).chain(WIDEST) {
         if words.iter().all(|word| name.contains(word)) {
             run(name, &make());
         }

@@ -11,13 +11,11 @@ use small_sets::{headers_only, receiver, relation, shot, File, Line, Set};
 pub type Large = (&'static str, fn() -> Set);
 
 /// Sets that are made to take long, accepted or refused as late as can be.
-pub const HOSTILE: [Large; 16] = [
+pub const HOSTILE: [Large; 14] = [
     ("one record, a line for each receiver, backwards", records::one),
     ("the same, the last line covers the first receiver", records::covered_again),
     ("a record for each line, tapes alike", records::many),
     ("the same, the last record is the first", records::again),
-    ("every receiver in every record", receivers::all),
-    ("the same, the last receiver of the last line lacks", receivers::last_lacks),
     ("nine indices, one of them covered", receivers::nine_indices),
     ("markers before the one receiver and the one shot", receivers::markers),
     ("names alike but in their last column", receivers::names_alike),
@@ -28,6 +26,13 @@ pub const HOSTILE: [Large; 16] = [
     ("the same, the last line names no shot", shots::no_shot),
     ("header lines alone", headers::alone),
     ("the same, the last column of X differs", headers::last_column),
+];
+
+/// Sets of nearly a hundred million traces, the most there can be at one channel
+/// a receiver.
+pub const WIDEST: [Large; 2] = [
+    ("every receiver in every record", receivers::all),
+    ("the same, the last receiver of the last line lacks", receivers::last_lacks),
 ];
 
 /// The lines below set A's header in a file of 9,999 lines.

@@ -2,9 +2,10 @@
 
 use crate::answers::{naive, proved};
 use crate::compare::compare;
-use many_sets::large::two_million_traces;
+use many_sets::large::{two_million_traces, HOSTILE};
 use probe::{Counts, Refusal};
-use small_sets::{File, Set};
+use small_sets::{headers_only, receiver, relation, shot, File, Set};
+use std::collections::BTreeSet;
 use std::thread;
 
 const COUNTS: Counts =
@@ -52,6 +53,34 @@ fn last_lines() {
     let record = full.clone().put(File::X, 9_999, 8, "9976").put(File::X, 9_999, 30, "    9976");
     hold(record.clone(), 17, File::X, 39);
     hold(record.put(File::X, 9_999, 39, " 201 400"), 19, File::X, 64);
+}
+
+/// One line covers all receivers: any that lacks, and any that is covered again.
+#[test]
+fn one_wide_line() {
+    let wide = headers_only()
+        .add_all(File::R, (1..=9_978).map(receiver))
+        .add(File::S, shot(501))
+        .add(File::X, relation().channels(1, 9_978).receivers(1, 9_978));
+    let refused = |number, line| Err(Refusal { number, file: 3, line, column: 64 });
+    let counts = Counts { receivers: 9_978, shots: 1, relations: 1, traces: 9_978 };
+    assert_eq!(compare(&wide, "one line"), Ok(counts));
+    for n in [1, 2, 255, 256, 257, 512, 4_096, 8_192, 9_977, 9_978] {
+        let without = wide.clone().remove(File::R, n as usize + 21);
+        assert_eq!(compare(&without, &format!("without {n}")), refused(18, 22));
+        let again = wide.clone().add(File::X, relation().channels(9_979, 9_979).receivers(n, n));
+        assert_eq!(compare(&again, &format!("{n} again")), refused(19, 23));
+    }
+}
+
+/// Sets that are made to take long are no different.
+#[test]
+fn hostile_sets() {
+    let mut numbers = BTreeSet::new();
+    for (name, make) in HOSTILE {
+        numbers.insert(compare(&make(), name).map_or_else(|refusal| refusal.number, |_| 0));
+    }
+    assert_eq!(numbers, BTreeSet::from([0, 9, 12, 13, 15, 16, 18, 19]));
 }
 
 /// The largest set needs no more than the stack of a common thread.

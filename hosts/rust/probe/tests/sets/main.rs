@@ -1,5 +1,5 @@
 //! The proved set check and the naive reader get the same sets, and answer the
-//! same: some 270,000 sound and damaged ones, the table, the examples, and sets
+//! same: some 350,000 sound and damaged ones, the table, the examples, and sets
 //! of 9,999 lines a file.
 //!
 //! `PROBE_SEED` gives another seed, and `PROBE_TIMES` so many times the sets. A
