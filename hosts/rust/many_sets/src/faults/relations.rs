@@ -57,7 +57,7 @@ pub fn again(random: &mut Random, set: Set) -> Set {
     };
     let (to, to_receiver) = match random.below(2) {
         0 => (to, number(&line, TO_RECEIVER)),
-        _ => (from + components - 1, number(&line, FROM_RECEIVER)),
+        _ => (from + components.saturating_sub(1), number(&line, FROM_RECEIVER)),
     };
     let (Some(length), Some(to_receiver)) = (to.checked_sub(from), to_receiver) else { return set };
     let line = put(put(line, FROM_CHANNEL, before + 1), TO_CHANNEL, before + 1 + length);
@@ -96,7 +96,9 @@ pub fn named(random: &mut Random, set: Set) -> Set {
         line.0[71..79].copy_from_slice(&point[17..25]);
         line.0[79] = point[25];
         match channels(&line) {
-            Some((from, _, components)) => put(line, TO_CHANNEL, from + components - 1),
+            Some((from, _, components)) => {
+                put(line, TO_CHANNEL, from + components.saturating_sub(1))
+            }
             None => line,
         }
     })
