@@ -83,14 +83,14 @@ fn hostile_sets() {
     assert_eq!(numbers, BTreeSet::from([0, 9, 12, 13, 15, 16, 18, 19]));
 }
 
-/// The largest set needs no more than the stack of a common thread.
+/// The largest set needs no more stack than is stated of the call.
 #[test]
-fn two_megabytes_of_stack() {
+fn a_megabyte_and_a_half_of_stack() {
     let accepted = two_million_traces();
     let refused = accepted.clone().put(File::X, 9_999, 8, "   0");
     for set in [accepted, refused] {
         let expected = naive(&set);
-        let small = thread::Builder::new().stack_size(2 << 20);
+        let small = thread::Builder::new().stack_size(3 << 19);
         let answer = small.spawn(move || proved(&set)).expect("a thread").join();
         assert_eq!(answer.expect("an answer"), expected);
     }
