@@ -56,7 +56,7 @@ module _ (r s x : Sheet) where
   when-broken w =
       Iff·trans (refusal-is (verdict r s x) (points r) (points s) (relations x) (allTraces x) w) (verdict-refuses r s x w)
 
-  judged : (v : Answer) → paper v ≡ checkOf r s x → Judged r s x v
+  pub judged : (v : Answer) → paper v ≡ checkOf r s x → Judged r s x v
   judged v e =
       record {
         accepted-when = (

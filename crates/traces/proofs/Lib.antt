@@ -1,0 +1,6 @@
+pub mod Ranges
+pub mod Lines
+pub mod Sets
+pub mod Ways
+pub mod One
+pub mod Demands

@@ -1,0 +1,74 @@
+-- The contracts of this crate leave one outcome: any two results that meet one of them are the same.
+use mathlib.Core.Path.{_≡_, refl, sym, _∙_}
+use Rattle.outcome.specs.One.{One}
+use Rattle.traces.specs.declared.Answer.{Answer}
+use Rattle.traces.specs.declared.Answer.the-variants.{Trace, Channel, NoTrace, Refused}
+use Rattle.traces.specs.Paper.{paper}
+use Rattle.traces.proofs.asked.record as asked-record
+use Rattle.traces.proofs.asked.record.Reads as asked-record-reads
+use Rattle.traces.proofs.asked.channel as asked-channel
+use Rattle.traces.proofs.asked.channel.Reads as asked-channel-reads
+use Rattle.traces.proofs.asked.receiver as asked-receiver
+use Rattle.traces.proofs.asked.receiver.Reads as asked-receiver-reads
+use Rattle.traces.proofs.asked.tape as asked-tape
+use Rattle.traces.proofs.asked.tape.Reads as asked-tape-reads
+use Rattle.traces.proofs.forth.carrier as carrier
+use Rattle.traces.proofs.forth.carrier.Reads as carrier-reads
+use Rattle.traces.proofs.forth.receiver_line as receiver-line
+use Rattle.traces.proofs.forth.receiver_line.Reads as receiver-line-reads
+use Rattle.traces.proofs.back.is_receiver as is-receiver
+use Rattle.traces.proofs.back.is_receiver.Reads as is-receiver-reads
+use Rattle.traces.proofs.back.reacher as reacher
+use Rattle.traces.proofs.back.reacher.Reads as reacher-reads
+use Rattle.traces.proofs.trace as trace
+use Rattle.traces.proofs.trace.Reads as trace-reads
+use Rattle.traces.proofs.channel as channel
+use Rattle.traces.proofs.channel.Reads as channel-reads
+
+pub answer-one : (a b : Answer) → paper a ≡ paper b → a ≡ b
+answer-one (Trace l m) (Trace l′ m′) e = cc
+answer-one (Trace l m) (Channel c′) e = cc
+answer-one (Trace l m) NoTrace e = cc
+answer-one (Trace l m) (Refused n′ f′ l′ c′) e = cc
+answer-one (Channel c) (Trace l′ m′) e = cc
+answer-one (Channel c) (Channel c′) e = cc
+answer-one (Channel c) NoTrace e = cc
+answer-one (Channel c) (Refused n′ f′ l′ c′) e = cc
+answer-one NoTrace (Trace l′ m′) e = cc
+answer-one NoTrace (Channel c′) e = cc
+answer-one NoTrace NoTrace e = refl
+answer-one NoTrace (Refused n′ f′ l′ c′) e = cc
+answer-one (Refused n f l c) (Trace l′ m′) e = cc
+answer-one (Refused n f l c) (Channel c′) e = cc
+answer-one (Refused n f l c) NoTrace e = cc
+answer-one (Refused n f l c) (Refused n′ f′ l′ c′) e = cc
+
+pub asked-record-one : One asked-record.ended asked-record-reads.Post
+asked-record-one κs a v v′ w w′ p p′ = (p ∙ sym p′, refl)
+
+pub asked-channel-one : One asked-channel.ended asked-channel-reads.Post
+asked-channel-one κs a v v′ w w′ p p′ = (p ∙ sym p′, refl)
+
+pub asked-receiver-one : One asked-receiver.ended asked-receiver-reads.Post
+asked-receiver-one κs a v v′ w w′ p p′ = (p ∙ sym p′, refl)
+
+pub asked-tape-one : One asked-tape.ended asked-tape-reads.Post
+asked-tape-one κs a v v′ w w′ p p′ = (p ∙ sym p′, refl)
+
+pub carrier-one : One carrier.ended carrier-reads.Post
+carrier-one κs a v v′ w w′ p p′ = (p ∙ sym p′, refl)
+
+pub receiver-line-one : One receiver-line.ended receiver-line-reads.Post
+receiver-line-one κs a v v′ w w′ p p′ = (p ∙ sym p′, refl)
+
+pub is-receiver-one : One is-receiver.ended is-receiver-reads.Post
+is-receiver-one κs a v v′ w w′ p p′ = (p ∙ sym p′, refl)
+
+pub reacher-one : One reacher.ended reacher-reads.Post
+reacher-one κs a v v′ w w′ p p′ = (p ∙ sym p′, refl)
+
+pub trace-one : One trace.ended trace-reads.Post
+trace-one κs a v v′ w w′ p p′ = (answer-one v v′ (p ∙ sym p′), refl)
+
+pub channel-one : One channel.ended channel-reads.Post
+channel-one κs a v v′ w w′ p p′ = (answer-one v v′ (p ∙ sym p′), refl)
