@@ -9,6 +9,10 @@ use Rattle.probe.proofs.probe_form as probe-form
 use Rattle.probe.proofs.probe_form.Reads as probe-form-reads
 use Rattle.probe.proofs.probe_check as probe-check
 use Rattle.probe.proofs.probe_check.Reads as probe-check-reads
+use Rattle.probe.proofs.probe_trace as probe-trace
+use Rattle.probe.proofs.probe_trace.Reads as probe-trace-reads
+use Rattle.probe.proofs.probe_channel as probe-channel
+use Rattle.probe.proofs.probe_channel.Reads as probe-channel-reads
 use Rattle.probe.proofs.probe_point as probe-point
 use Rattle.probe.proofs.probe_point.Reads as probe-point-reads
 use Rattle.probe.proofs.probe_relation as probe-relation
@@ -31,3 +35,9 @@ probe-relation-one κs a v v′ w w′ p p′ = (refl, both refl (both (p ∙ sy
 
 pub probe-check-one : One probe-check.ended probe-check-reads.Post
 probe-check-one κs a v v′ w w′ p p′ = (p .0 ∙ sym (p′ .0), both refl (both refl (both refl (both (p .1 ∙ sym (p′ .1)) refl))))
+
+pub probe-trace-one : One probe-trace.ended probe-trace-reads.Post
+probe-trace-one κs a v v′ w w′ p p′ = (p ∙ sym p′, refl)
+
+pub probe-channel-one : One probe-channel.ended probe-channel-reads.Post
+probe-channel-one κs a v v′ w w′ p p′ = (p ∙ sym p′, refl)
