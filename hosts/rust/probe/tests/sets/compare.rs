@@ -1,9 +1,8 @@
 //! One set, both readers.
 
 use crate::answers::{naive, proved, Answer};
+use crate::keep::keep;
 use small_sets::Set;
-use std::path::{Path, PathBuf};
-use std::{fs, thread};
 
 /// Holds the readers together on a set, and returns what they agree on.
 pub fn compare(set: &Set, how: &str) -> Answer {
@@ -14,17 +13,6 @@ pub fn compare(set: &Set, how: &str) -> Answer {
         panic!("{how}\n  proved {proved:?}\n  naive  {naive:?}\n  the files are in {kept}");
     }
     proved
-}
-
-/// Writes a set down as three files, in a folder named after the test.
-fn keep(set: &Set) -> PathBuf {
-    let test = thread::current().name().unwrap_or("a test").replace("::", "_");
-    let folder = Path::new(env!("CARGO_TARGET_TMPDIR")).join("sets").join(test);
-    fs::create_dir_all(&folder).expect("a folder for the files");
-    for (name, bytes) in [("set.r01", &set.r), ("set.s01", &set.s), ("set.x01", &set.x)] {
-        fs::write(folder.join(name), bytes).expect("a file of the set");
-    }
-    folder
 }
 
 /// How many sets are accepted, and refused for each number.

@@ -11,5 +11,7 @@ mod compare;
 mod damaged;
 mod examples;
 mod full;
+#[path = "../common/keep.rs"]
+mod keep;
 mod lengths;
 mod table;
