@@ -2,7 +2,7 @@
 //!
 //! `run` gives the seed and the length of a run. `fields` and `lines` make what
 //! stands in one line, `damage` changes it. `sound` makes whole sets, `faults`
-//! changes them; `large` has those of full size.
+//! changes them; `large` has those of full size. `questions` asks for traces.
 
 #![forbid(unsafe_code)]
 
@@ -11,5 +11,6 @@ pub mod faults;
 pub mod fields;
 pub mod large;
 pub mod lines;
+pub mod questions;
 pub mod run;
 pub mod sound;

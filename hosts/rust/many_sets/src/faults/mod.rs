@@ -6,6 +6,8 @@ mod lines;
 mod relations;
 mod values;
 
+pub(crate) use values::number;
+
 use small_sets::{File, Random, Set};
 
 /// A name, and what changes a set. Where it finds nothing to change the set stays.
@@ -57,7 +59,7 @@ fn headers_of(set: &Set, file: File) -> usize {
 }
 
 /// One of a file's own lines.
-fn own_line(random: &mut Random, set: &Set, file: File) -> Option<usize> {
+pub(crate) fn own_line(random: &mut Random, set: &Set, file: File) -> Option<usize> {
     let headers = headers_of(set, file);
     let own = set.lines(file) - headers;
     (own > 0).then(|| headers + 1 + random.below(own))
