@@ -3,7 +3,10 @@
 //! lines.
 //!
 //! The calls are those of `crates/probe`; the archive carries what they answer
-//! over as numbers, and here the numbers get their names again.
+//! over as numbers, and here the numbers get their names again. The questions on
+//! a set stand in `traces`.
+
+pub mod traces;
 
 /// Columns 1 to 80 of a line.
 pub type Line = [u8; 80];
