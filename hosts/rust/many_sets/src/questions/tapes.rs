@@ -16,17 +16,19 @@ pub fn with_record(random: &mut Random, set: &Set, at: &Line) -> (Vec<u8>, u64) 
     }
 }
 
-/// A tape that differs by a byte, by its length or by where its bytes stand.
+/// A tape that differs by a byte, in case, by its length or by where its bytes
+/// stand.
 fn other_tape(random: &mut Random, mut tape: Vec<u8>) -> Vec<u8> {
     let column = random.below(tape.len());
-    match random.below(8) {
+    match random.below(9) {
         0 => tape[column] = 32 + random.below(95) as u8,
         1 => tape[column] = random.pick(&[0, 9, 10, 13, 31, 127, 128, 255]),
-        2 => tape[column] = tape[column].wrapping_add(random.pick(&[1, 255])),
+        2 => tape[column] ^= 1 << random.below(8),
         3 => tape[0] = b' ',
         4 => tape.rotate_left(column),
         5 => tape.truncate(column),
         6 => tape.truncate(tape.trim_ascii_end().len()),
+        7 => tape.iter_mut().filter(|byte| byte.is_ascii_alphabetic()).for_each(|byte| *byte ^= 32),
         _ => tape.resize(7 + column, b' '),
     }
     tape
