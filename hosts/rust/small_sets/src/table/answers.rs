@@ -10,7 +10,7 @@ use crate::File::{R, S, X};
 use crate::{headers_only, set_a, Case, Question, Set};
 
 pub fn cases() -> Vec<Case> {
-    [of_set_a(), components(), gaps(), scattered(), records(), stays()].concat()
+    [of_set_a(), components(), gaps(), scattered(), alike(), records(), stays()].concat()
 }
 
 /// Cases of one set, named by what is asked.
@@ -123,6 +123,23 @@ fn scattered() -> Vec<Case> {
     of("scattered receivers", set, rows)
 }
 
+/// Lines of R before those that are covered: the first of another name, the
+/// third a marker, and both otherwise alike.
+fn alike() -> Vec<Case> {
+    let set =
+        set_a().insert(R, 22, receiver(101).name("L0")).insert(R, 24, receiver(102).code("PM"));
+    let rows = vec![
+        (trace(1), comes_from(23, 1)),
+        (trace(2), comes_from(25, 1)),
+        (channel(22, 1), NoTrace),
+        (channel(23, 1), Answer::Channel(1)),
+        (channel(24, 1), NoTrace),
+        (channel(25, 1), Answer::Channel(2)),
+        (spread(3, 3), filled(3, &[(23, 1), (25, 1), (26, 1)], 3, 3)),
+    ];
+    of("lines alike", set, rows)
+}
+
 /// Two shots and three records, two of them of number 11 on different tapes.
 fn records() -> Vec<Case> {
     let set = set_a()
@@ -135,6 +152,7 @@ fn records() -> Vec<Case> {
         (trace_of("100   ", 12, 1), comes_from(23, 1)),
         (trace_of("100   ", 12, 3), NoTrace),
         (trace_of("100   ", 13, 1), NoTrace),
+        (trace_of("100   ", 11 + 256, 1), NoTrace),
         (trace_of("101   ", 11, 1), NoTrace),
         (trace_of("101   ", 11, 2), comes_from(22, 1)),
         (trace_of("101   ", 12, 1), NoTrace),
@@ -143,6 +161,7 @@ fn records() -> Vec<Case> {
         (channel_of("100   ", 13, 22, 1), NoTrace),
         (channel_of("101   ", 11, 22, 1), Answer::Channel(2)),
         (channel_of("101   ", 11, 23, 1), NoTrace),
+        (spread_of("100   ", 11, 3, 4), filled(3, &[(22, 1), (23, 1), (24, 1)], 3, 4)),
         (spread_of("100   ", 12, 3, 3), filled(2, &[(23, 1), (24, 1)], 3, 3)),
         (spread_of("100   ", 13, 3, 3), filled(0, &[], 3, 3)),
         (spread_of("101   ", 11, 2, 2), filled(2, &[(0, 0), (22, 1)], 2, 2)),
@@ -185,6 +204,7 @@ fn stays() -> Vec<Case> {
         (trace(3), comes_from(9_999, 1)),
         (channel(9_999, 1), Answer::Channel(3)),
         (channel(9_996, 1), NoTrace),
+        (spread(3, 3), filled(3, &[(9_997, 1), (9_998, 1), (9_999, 1)], 3, 3)),
     ];
     [
         of("later places", set_a(), rows),
