@@ -1,18 +1,44 @@
 -- The contracts of this crate leave one outcome: any two results, and contents of the lent slices, that meet one of them are the same.
-use mathlib.Core.Path.{sym, refl, _∙_}
-use Rattle.outcome.specs.One.{One}
+use mathlib.Core.Path.{refl, sym, _∙_}
+use Rattle.outcome.specs.One.{One, both}
+use Rattle.spread.proofs.Taken.{one-taken}
+use Rattle.spread.proofs.Seats.{one-seated}
 use Rattle.spread.proofs.highest as highest
 use Rattle.spread.proofs.highest.Reads as highest-reads
+use Rattle.spread.proofs.fill as fill
+use Rattle.spread.proofs.fill.Reads as fill-reads
 use Rattle.spread.proofs.record.of_record as of-record
 use Rattle.spread.proofs.record.of_record.Reads as of-record-reads
 use Rattle.spread.proofs.record.upto_of as upto-of
 use Rattle.spread.proofs.record.upto_of.Reads as upto-of-reads
+use Rattle.spread.proofs.places.clear as clear
+use Rattle.spread.proofs.places.clear.Reads as clear-reads
+use Rattle.spread.proofs.places.find_lines as find-lines
+use Rattle.spread.proofs.places.find_lines.Reads as find-lines-reads
+use Rattle.spread.proofs.places.put as put
+use Rattle.spread.proofs.places.put.Reads as put-reads
 
 pub highest-one : One highest.ended highest-reads.Post
 highest-one κs a v v′ w w′ p p′ = (p ∙ sym p′, refl)
+
+pub fill-one : One fill.ended fill-reads.Post
+fill-one κs a v v′ w w′ p p′ =
+    (refl, both refl (both refl (both refl (both refl (both refl (both (p .0 ∙ sym (p′ .0)) (both (p .1 ∙ sym (p′ .1)) refl)))))))
 
 pub of-record-one : One of-record.ended of-record-reads.Post
 of-record-one κs a v v′ w w′ p p′ = (p ∙ sym p′, refl)
 
 pub upto-of-one : One upto-of.ended upto-of-reads.Post
 upto-of-one κs a v v′ w w′ p p′ = (p ∙ sym p′, refl)
+
+pub clear-one : One clear.ended clear-reads.Post
+clear-one κs a v v′ w w′ p p′ =
+    (refl, both refl (both (one-taken _ _ _ _ _ (p .0) (p′ .0)) (both (one-taken _ _ _ _ _ (p .1) (p′ .1)) refl)))
+
+pub find-lines-one : One find-lines.ended find-lines-reads.Post
+find-lines-one κs a v v′ w w′ p p′ =
+    (refl, both refl (both refl (both refl (both refl (both refl (both refl (both (one-seated _ _ _ _ _ _ _ _ _ p p′) refl)))))))
+
+pub put-one : One put.ended put-reads.Post
+put-one κs a v v′ w w′ p p′ =
+    (refl, both refl (both refl (both refl (both refl (both (one-taken _ _ _ _ _ (p .0) (p′ .0)) (both (one-taken _ _ _ _ _ (p .1) (p′ .1)) refl))))))
