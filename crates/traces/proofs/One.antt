@@ -1,9 +1,14 @@
--- The contracts of this crate leave one outcome: any two results that meet one of them are the same.
+-- The contracts of this crate leave one outcome: any two results, and contents of the lent slices, that meet one of them are
+-- the same.
 use mathlib.Core.Path.{_≡_, refl, sym, _∙_}
-use Rattle.outcome.specs.One.{One}
+use Rattle.outcome.specs.One.{One, both}
 use Rattle.traces.specs.declared.Answer.{Answer}
 use Rattle.traces.specs.declared.Answer.the-variants.{Trace, Channel, NoTrace, Refused}
-use Rattle.traces.specs.Paper.{paper}
+use Rattle.traces.specs.declared.Spread.{Spread}
+use Rattle.traces.specs.declared.Spread.the-variants.{Highest, Refused as Denied}
+use Rattle.traces.specs.Paper.{paper, paperSpread}
+use Rattle.traces.proofs.spread_table as spread-table
+use Rattle.traces.proofs.spread_table.Reads as spread-table-reads
 use Rattle.traces.proofs.asked.record as asked-record
 use Rattle.traces.proofs.asked.record.Reads as asked-record-reads
 use Rattle.traces.proofs.asked.channel as asked-channel
@@ -72,3 +77,15 @@ trace-one κs a v v′ w w′ p p′ = (answer-one v v′ (p ∙ sym p′), refl
 
 pub channel-one : One channel.ended channel-reads.Post
 channel-one κs a v v′ w w′ p p′ = (answer-one v v′ (p ∙ sym p′), refl)
+
+pub spread-one : (a b : Spread) → paperSpread a ≡ paperSpread b → a ≡ b
+spread-one (Highest h) (Highest h′) e = cc
+spread-one (Highest h) (Denied n′ f′ l′ c′) e = cc
+spread-one (Denied n f l c) (Highest h′) e = cc
+spread-one (Denied n f l c) (Denied n′ f′ l′ c′) e = cc
+
+pub spread-table-one : One spread-table.ended spread-table-reads.Post
+spread-table-one κs a v v′ w w′ p p′ = (
+  spread-one v v′ (p .0 ∙ sym (p′ .0)),
+  both refl (both refl (both refl (both refl (both refl (both (p .1 .0 ∙ sym (p′ .1 .0)) (both (p .1 .1 ∙ sym (p′ .1 .1)) refl)))))),
+)

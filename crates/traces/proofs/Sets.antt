@@ -38,7 +38,7 @@ use Rattle.traces.specs.Steps.{Accepted, tracedOn}
 
 module _ (r s x : List ℕ) where
   module _ (ok : Accepted r s x) where
-    fine-rules : fine ≡ run (rules (file r) (file s) (file x))
+    pub fine-rules : fine ≡ run (rules (file r) (file s) (file x))
     unfolding verdict
     fine-rules = sym ok
 

@@ -10,7 +10,9 @@ ghost use Rattle.rules.specs.Cover.{carries, channelOf};
 ghost use Rattle.rules.specs.Points.{pointAt};
 ghost use Rattle.rules.specs.Check.{channel as channelAnswer};
 ghost use Rattle.rules.specs.Lookup.{reaches, found as foundOf, foundBack, lookup, wayBack};
-ghost use Rattle.traces.specs.Paper.{paper};
+ghost use lib.ListN.{length};
+ghost use Rattle.rules.specs.Spread.{spread as spreadOf, spreadLines, spreadComponents};
+ghost use Rattle.traces.specs.Paper.{paper, paperSpread};
 ghost use Rattle.traces.specs.Steps.{Asked, Accepted, tracedOn};
 use records::relation;
 use sets::Answer as SetAnswer;
@@ -25,6 +27,12 @@ pub enum Answer {
     Trace(u32, u8),
     Channel(u32),
     NoTrace,
+    Refused(u8, u8, u32, u8),
+}
+
+// What the spread table is answered: the record's highest covered channel, or a refusal.
+pub enum Spread {
+    Highest(u64),
     Refused(u8, u8, u32, u8),
 }
 
@@ -117,4 +125,36 @@ pub fn channel(r: &[u8], s: &[u8], x: &[u8], t: &[u8], n: u64, j: u64, m: u64) -
         SetAnswer::Accepted(_, _, _, _) => found_back(r, s, x, t, n, j, m),
         SetAnswer::Refused(i, f, l, e) => Answer::Refused(i, f, l, e),
     }
+}
+
+// The spread table: place c - 1 of the slices takes the R line and the component of channel c, or 0 and 0, up to the record's highest
+// covered channel; later places stay, and a refusal writes nothing.
+pub fn spread_table(
+    r: &[u8],
+    s: &[u8],
+    x: &[u8],
+    t: &[u8],
+    n: u64,
+    lines: &mut [u16],
+    components: &mut [u8],
+) -> Spread
+    ensures answer { λ a. ⌜ paperSpread a ≡ spreadOf (file (now (r .entry))) (file (now (s .entry))) (file (now (x .entry))) (now (t .entry)) n (length (now (lines .entry))) (length (now (components .entry))) ⌝ }
+    ensures written { λ _. ⌜ (now (lines .exit) ≡ spreadLines (file (now (r .entry))) (file (now (s .entry))) (file (now (x .entry))) (now (t .entry)) n (length (now (lines .entry))) (length (now (components .entry))) (now (lines .entry))) × (now (components .exit) ≡ spreadComponents (file (now (r .entry))) (file (now (s .entry))) (file (now (x .entry))) (now (t .entry)) n (length (now (lines .entry))) (length (now (components .entry))) (now (components .entry))) ⌝ }
+{
+    if !asked::record(t, n) {
+        return Spread::Refused(20, 0, 0, 0);
+    }
+    let v = sets::check(r, s, x);
+    if let SetAnswer::Refused(i, f, l, e) = v {
+        return Spread::Refused(i, f, l, e);
+    }
+    let h = spread::highest(x, t, n);
+    if (lines.len() as u64) < h {
+        return Spread::Refused(21, 0, 0, 0);
+    }
+    if (components.len() as u64) < h {
+        return Spread::Refused(21, 0, 0, 0);
+    }
+    spread::fill(r, s, x, t, n, lines, components);
+    Spread::Highest(h)
 }
