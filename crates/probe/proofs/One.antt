@@ -13,6 +13,8 @@ use Rattle.probe.proofs.probe_trace as probe-trace
 use Rattle.probe.proofs.probe_trace.Reads as probe-trace-reads
 use Rattle.probe.proofs.probe_channel as probe-channel
 use Rattle.probe.proofs.probe_channel.Reads as probe-channel-reads
+use Rattle.probe.proofs.probe_spread as probe-spread
+use Rattle.probe.proofs.probe_spread.Reads as probe-spread-reads
 use Rattle.probe.proofs.probe_point as probe-point
 use Rattle.probe.proofs.probe_point.Reads as probe-point-reads
 use Rattle.probe.proofs.probe_relation as probe-relation
@@ -41,3 +43,9 @@ probe-trace-one κs a v v′ w w′ p p′ = (p ∙ sym p′, refl)
 
 pub probe-channel-one : One probe-channel.ended probe-channel-reads.Post
 probe-channel-one κs a v v′ w w′ p p′ = (p ∙ sym p′, refl)
+
+pub probe-spread-one : One probe-spread.ended probe-spread-reads.Post
+probe-spread-one κs a v v′ w w′ p p′ = (
+  p .0 ∙ sym (p′ .0),
+  both refl (both refl (both refl (both refl (both refl (both (p .1 .0 ∙ sym (p′ .1 .0)) (both (p .1 .1 ∙ sym (p′ .1 .1)) refl)))))),
+)

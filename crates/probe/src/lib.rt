@@ -12,6 +12,7 @@ ghost use Rattle.rules.specs.Relations.{relation as relationValues};
 ghost use Rattle.rules.specs.Check.{check as checkOf};
 ghost use Rattle.rules.specs.Hosts.{hostNumber};
 ghost use Rattle.rules.specs.Lookup.{lookup, wayBack};
+ghost use Rattle.rules.specs.Spread.{spread as spreadOf, spreadLines, spreadComponents};
 ghost use Rattle.traces.specs.Paper.{paper as questionPaper};
 ghost use Rattle.lines.specs.Paper.{paper};
 ghost use Rattle.records.specs.Coded.{codedPoint, codedRelation};
@@ -23,6 +24,7 @@ use records::point;
 use records::relation;
 use sets::Answer;
 use traces::Answer as Told;
+use traces::Spread;
 
 mod values;
 
@@ -135,6 +137,26 @@ pub extern "C" fn probe_channel(
     ensures answer { λ a. ⌜ a ≡ hostNumber (wayBack (file (now (r .entry))) (file (now (s .entry))) (file (now (x .entry))) (now (t .entry)) n j m) ⌝ }
 {
     number(traces::channel(r, s, x, t, n, j, m))
+}
+
+// The spread table.
+#[no_mangle]
+pub extern "C" fn probe_spread(
+    r: &[u8],
+    s: &[u8],
+    x: &[u8],
+    t: &[u8],
+    n: u64,
+    lines: &mut [u16],
+    components: &mut [u8],
+) -> u64
+    ensures answer { λ a. ⌜ a ≡ hostNumber (spreadOf (file (now (r .entry))) (file (now (s .entry))) (file (now (x .entry))) (now (t .entry)) n (length (now (lines .entry))) (length (now (components .entry)))) ⌝ }
+    ensures written { λ _. ⌜ (now (lines .exit) ≡ spreadLines (file (now (r .entry))) (file (now (s .entry))) (file (now (x .entry))) (now (t .entry)) n (length (now (lines .entry))) (length (now (components .entry))) (now (lines .entry))) × (now (components .exit) ≡ spreadComponents (file (now (r .entry))) (file (now (s .entry))) (file (now (x .entry))) (now (t .entry)) n (length (now (lines .entry))) (length (now (components .entry))) (now (components .entry))) ⌝ }
+{
+    match traces::spread_table(r, s, x, t, n, lines, components) {
+        Spread::Highest(h) => h,
+        Spread::Refused(i, f, l, c) => told(Verdict::Refused(i, f, l, c)),
+    }
 }
 
 // The values of a point line.
