@@ -4,8 +4,9 @@
 //!
 //! The calls are those of `crates/probe`; the archive carries what they answer
 //! over as numbers, and here the numbers get their names again. The questions on
-//! a set stand in `traces`.
+//! a set stand in `traces` and `spread`.
 
+mod spread;
 pub mod traces;
 
 /// Columns 1 to 80 of a line.

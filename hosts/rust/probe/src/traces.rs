@@ -1,4 +1,5 @@
-//! The questions on the traces of a set: the lookup and the way back.
+//! The questions on the traces of a set: the lookup and the way back; the spread
+//! table stands in `spread`.
 //!
 //! A call answers with one number: a refusal as `number * 2^40 + file * 2^32 +
 //! line * 256 + column`, otherwise what is asked for, and 0 where there is none.

@@ -2,6 +2,7 @@
 //! the set: what it covers, and what is just beside that.
 
 mod channels;
+mod lengths;
 mod numbers;
 mod r_lines;
 mod tapes;
@@ -25,6 +26,15 @@ pub fn channel(random: &mut Random, set: &Set) -> Question {
     let (tape, record) = tapes::with_record(random, set, &line);
     let r_line = r_lines::r_line(random, set, &line);
     Question::Channel { tape, record, r_line, component: channels::component(random, &line) }
+}
+
+/// The spread table.
+pub fn spread(random: &mut Random, set: &Set) -> Question {
+    let line = line(random, set);
+    let (tape, record) = tapes::with_record(random, set, &line);
+    let highest = lengths::highest(set, &line);
+    let [lines_len, components_len] = [(); 2].map(|()| lengths::length(random, highest));
+    Question::Spread { tape, record, lines_len, components_len }
 }
 
 /// The relation line that a question is about; where there is none, that of set A.

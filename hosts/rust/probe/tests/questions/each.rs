@@ -1,7 +1,8 @@
-//! Every channel near those of a relation line, and every line of R.
+//! Every channel near those of a relation line, every line of R, and slices of
+//! every length near its last channel.
 
 use crate::compare::compare;
-use crate::tally::Kind::{Found, Nothing};
+use crate::tally::Kind::{self, Found, Nothing, TooShort};
 use crate::tally::Tally;
 use many_sets::run::{random, turns};
 use many_sets::sound::sound;
@@ -13,8 +14,9 @@ fn relations(set: &Set) -> Vec<naive::Relation> {
     lines.filter(|line| line[0] == b'X').flat_map(|line| naive::read_relation(&line)).collect()
 }
 
-/// Sets of one to eight relation lines, and what is asked of one of these.
-fn hold(salt: u64, sets: u64, ask: fn(&Set, naive::Relation) -> Vec<Question>) {
+/// Sets of one to eight relation lines, and what is asked of one of these: some
+/// is found, and some not.
+fn hold(salt: u64, sets: u64, not: Kind, ask: fn(&Set, naive::Relation) -> Vec<Question>) {
     let mut random = random(salt);
     let mut tally = Tally::default();
     for _ in 0..turns(sets) {
@@ -26,12 +28,12 @@ fn hold(salt: u64, sets: u64, ask: fn(&Set, naive::Relation) -> Vec<Question>) {
             }
         }
     }
-    tally.holds(&[(Found, 500), (Nothing, 500)]);
+    tally.holds(&[(Found, 500), (not, 500)]);
 }
 
 #[test]
 fn each_channel() {
-    hold(46, 600, |_, relation| {
+    hold(46, 600, Nothing, |_, relation| {
         let (tape, record) = (relation.tape.to_vec(), relation.record.into());
         let channels = relation.from_channel.max(4) - 3..=relation.to_channel.min(9_996) + 3;
         let ask = |channel| Question::Trace { tape: tape.clone(), record, channel };
@@ -41,7 +43,7 @@ fn each_channel() {
 
 #[test]
 fn each_r_line() {
-    hold(47, 250, |set, relation| {
+    hold(47, 250, Nothing, |set, relation| {
         let lines = 1..=set.lines(File::R) as u64 + 2;
         let components = 1..=u64::from(relation.channel_increment) + 1;
         let (tape, record) = (relation.tape.to_vec(), relation.record.into());
@@ -50,6 +52,26 @@ fn each_r_line() {
         lines
             .flat_map(|line| components.clone().map(move |component| (line, component)))
             .map(|(line, component)| ask(line, component))
+            .collect()
+    });
+}
+
+#[test]
+fn each_length() {
+    hold(49, 400, TooShort, |_, relation| {
+        let (tape, record) = (relation.tape.to_vec(), relation.record.into());
+        let to = usize::from(relation.to_channel);
+        let lengths = to.saturating_sub(2)..=to + 2;
+        let ask = |(lines_len, components_len)| Question::Spread {
+            tape: tape.clone(),
+            record,
+            lines_len,
+            components_len,
+        };
+        lengths
+            .clone()
+            .flat_map(|lines| lengths.clone().map(move |components| (lines, components)))
+            .map(ask)
             .collect()
     });
 }

@@ -4,14 +4,14 @@ use crate::compare::compare;
 use crate::tally::Kind::{Found, OfTheSet};
 use crate::tally::Tally;
 use many_sets::large::{survey, two_million_traces, HOSTILE};
-use many_sets::questions::{channel, trace};
+use many_sets::questions::{channel, spread, trace};
 use many_sets::run::{random, turns};
 use small_sets::{Question, Random, Set};
 
 /// So many questions of each kind.
 fn ask(random: &mut Random, set: &Set, times: u64, tally: &mut Tally) {
     for _ in 0..turns(times) {
-        for ask in [trace, channel] {
+        for ask in [trace, channel, spread] {
             let question = ask(random, set);
             tally.count(compare(set, &question));
         }

@@ -1,10 +1,10 @@
 //! Questions on sets made from a seed: sound ones, and with one thing changed.
 
 use crate::compare::compare;
-use crate::tally::Kind::{Found, Nothing, OfTheSet, OutOfRange};
+use crate::tally::Kind::{Found, Nothing, OfTheSet, OutOfRange, TooShort};
 use crate::tally::Tally;
 use many_sets::faults::damage;
-use many_sets::questions::{channel, trace, Ask};
+use many_sets::questions::{channel, spread, trace, Ask};
 use many_sets::run::{random, turns};
 use many_sets::sound::{sound, Sound};
 use small_sets::{Random, Set};
@@ -56,4 +56,16 @@ fn channels_of_sound_sets() {
 fn channels_of_damaged_sets() {
     let least = [(Found, 500), (Nothing, 500), (OutOfRange, 500), (OfTheSet, 5_000)];
     asked(43, 1, channel).holds(&least);
+}
+
+#[test]
+fn spreads_of_sound_sets() {
+    let least = [(Found, 2_000), (Nothing, 1_000), (OutOfRange, 500), (TooShort, 2_000)];
+    asked(44, 0, spread).holds(&least);
+}
+
+#[test]
+fn spreads_of_damaged_sets() {
+    let least = [(Found, 500), (Nothing, 500), (OutOfRange, 500), (TooShort, 500)];
+    asked(45, 1, spread).holds(&least);
 }
