@@ -23,7 +23,7 @@ fn ask(random: &mut Random, set: &Set, times: u64, tally: &mut Tally) {
 fn full_sets() {
     let mut random = random(48);
     let mut tally = Tally::default();
-    ask(&mut random, &survey(), 8, &mut tally);
+    ask(&mut random, &survey(), 3, &mut tally);
     for (_, make) in HOSTILE {
         ask(&mut random, &make(), 1, &mut tally);
     }
