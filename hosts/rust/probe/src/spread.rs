@@ -1,4 +1,4 @@
-//! The spread table, with its lines as 16-bit numbers or as bytes.
+//! The spread table, with its lines as 16-bit numbers.
 
 use crate::traces::Asked;
 
@@ -20,21 +20,6 @@ mod archive {
             components: *mut u8,
             components_len: usize,
         ) -> u64;
-        pub fn probe_spread_bytes(
-            r: *const u8,
-            r_len: usize,
-            s: *const u8,
-            s_len: usize,
-            x: *const u8,
-            x_len: usize,
-            tape: *const u8,
-            tape_len: usize,
-            record: u64,
-            lines: *mut u8,
-            lines_len: usize,
-            components: *mut u8,
-            components_len: usize,
-        ) -> u64;
     }
 }
 
@@ -47,29 +32,6 @@ impl Asked<'_> {
         // that are written are lent alone.
         unsafe {
             archive::probe_spread(
-                r.as_ptr(),
-                r.len(),
-                s.as_ptr(),
-                s.len(),
-                x.as_ptr(),
-                x.len(),
-                tape.as_ptr(),
-                tape.len(),
-                record,
-                lines.as_mut_ptr(),
-                lines.len(),
-                components.as_mut_ptr(),
-                components.len(),
-            )
-        }
-    }
-
-    /// The same with two bytes a line, low byte first; an odd last byte stays.
-    pub fn spread_bytes(&self, lines: &mut [u8], components: &mut [u8]) -> u64 {
-        let Asked { r, s, x, tape, record } = *self;
-        // SAFETY: as above; bytes may stand at any address.
-        unsafe {
-            archive::probe_spread_bytes(
                 r.as_ptr(),
                 r.len(),
                 s.as_ptr(),

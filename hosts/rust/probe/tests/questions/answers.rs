@@ -1,6 +1,6 @@
 //! What each of the readers answers to a question.
 
-use crate::lent::{lent, stay};
+use crate::lent::lent;
 use naive::HostNumber;
 use probe::traces::Asked;
 use small_sets::{Question, Set, STAYS};
@@ -53,11 +53,7 @@ pub fn proved(set: &Set, question: &Question) -> Vec<(&'static str, Answer)> {
         }
         &Question::Spread { ref tape, record, lines_len, components_len } => {
             let asked = asked(tape, record);
-            vec![
-                ("16-bit numbers", spread(asked, lines_len, components_len)),
-                ("bytes", spread_bytes(asked, 2 * lines_len, components_len)),
-                ("an odd number of bytes", spread_bytes(asked, 2 * lines_len + 1, components_len)),
-            ]
+            vec![("16-bit numbers", spread(asked, lines_len, components_len))]
         }
     }
 }
@@ -66,15 +62,5 @@ fn spread(asked: Asked, lines_len: usize, components_len: usize) -> Answer {
     let ((number, components), lines) = lent(LINE_STAYS, lines_len, |lines| {
         lent(STAYS, components_len, |components| asked.spread(lines, components))
     });
-    Answer { number, lines, components }
-}
-
-fn spread_bytes(asked: Asked, bytes_len: usize, components_len: usize) -> Answer {
-    let ((number, components), bytes) = lent(STAYS, bytes_len, |bytes| {
-        lent(STAYS, components_len, |components| asked.spread_bytes(bytes, components))
-    });
-    let places = bytes.chunks_exact(2);
-    stay(STAYS, places.remainder());
-    let lines = places.map(|place| u16::from_le_bytes([place[0], place[1]])).collect();
     Answer { number, lines, components }
 }
