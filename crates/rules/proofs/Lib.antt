@@ -19,5 +19,6 @@ pub mod Traces
 pub mod Demand3
 pub mod Disc
 pub mod Counts
+pub mod Turns
 pub mod Spreads
 pub mod Table

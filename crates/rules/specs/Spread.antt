@@ -2,11 +2,13 @@
 --   highestOf x t n     = the record's highest covered channel; 0 where the record is absent
 --   turns put n d       = d after put 0, then put 1, .. then put (n - 1)
 --   place g i d         = d with g (i + 1) at place i, the place of channel i + 1
+--   bytePlace g i d     = the same of a byte slice, where a place is two bytes, low byte first
 --   rule21              = "either spread slice is shorter than the record's highest channel"
 --   spread              = the answer
---   slice part          = what a slice holds afterwards, of which each place takes that part of its channel's answer
+--   slice put part      = what a slice holds afterwards, into which each turn puts that part of a channel's answer
 --   spreadLines, spreadComponents = what the two slices hold afterwards
-use Prim.Native.Nat.{ℕ, zero, suc, _+_}
+--   spreadBytes         = what the first holds where it is a byte slice
+use Prim.Native.Nat.{ℕ, zero, suc, _+_, _*_, _/_, _%_}
 use mathlib.Core.Bool.{_&&_}
 use mathlib.Core.List.{List}
 use lib.Dec.{leb}
@@ -49,6 +51,9 @@ turns put (suc n) d = put n (turns put n d)
 abbrev pub place : (ℕ → ℕ) → ℕ → List ℕ → List ℕ
 place g i d = set d i (g (i + 1))
 
+abbrev pub bytePlace : (ℕ → ℕ) → ℕ → List ℕ → List ℕ
+bytePlace g i d = set (set d (2 * i) (g (i + 1) % 256)) (2 * i + 1) (g (i + 1) / 256)
+
 unfoldable pub rule21 : ℕ → ℕ → ℕ → Plan
 rule21 h a b = need (leb h a && leb h b) (№ 21 0 0 0)
 
@@ -65,13 +70,19 @@ unfoldable pub unlessRefused : Verdict → List ℕ → List ℕ → List ℕ
 unlessRefused fine new old = new
 unlessRefused (refused w) new old = old
 
-unfoldable pub slice : (Answer → ℕ) → Sheet → Sheet → Sheet → List ℕ → ℕ → ℕ → ℕ → List ℕ → List ℕ
-slice part r s x t n a b d =
-    let new = turns (place (λ c. part (found r x t n c))) (highestOf x t n) d in
+abbrev pub Put : Type 0
+Put = (ℕ → ℕ) → ℕ → List ℕ → List ℕ
+
+unfoldable pub slice : Put → (Answer → ℕ) → Sheet → Sheet → Sheet → List ℕ → ℕ → ℕ → ℕ → List ℕ → List ℕ
+slice put part r s x t n a b d =
+    let new = turns (put (λ c. part (found r x t n c))) (highestOf x t n) d in
     unlessRefused (spreadVerdict r s x t n a b) new d
 
 abbrev pub spreadLines : Sheet → Sheet → Sheet → List ℕ → ℕ → ℕ → ℕ → List ℕ → List ℕ
-spreadLines = slice lineOf
+spreadLines = slice place lineOf
 
 abbrev pub spreadComponents : Sheet → Sheet → Sheet → List ℕ → ℕ → ℕ → ℕ → List ℕ → List ℕ
-spreadComponents = slice componentOf
+spreadComponents = slice place componentOf
+
+abbrev pub spreadBytes : Sheet → Sheet → Sheet → List ℕ → ℕ → ℕ → ℕ → List ℕ → List ℕ
+spreadBytes = slice bytePlace lineOf

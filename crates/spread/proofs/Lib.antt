@@ -4,3 +4,4 @@ pub mod Seats
 pub mod Reached
 pub mod Whole
 pub mod One
+pub mod Bytes

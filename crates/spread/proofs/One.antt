@@ -7,6 +7,10 @@ use Rattle.spread.proofs.highest as highest
 use Rattle.spread.proofs.highest.Reads as highest-reads
 use Rattle.spread.proofs.fill as fill
 use Rattle.spread.proofs.fill.Reads as fill-reads
+use Rattle.spread.proofs.fill_bytes as fill-bytes
+use Rattle.spread.proofs.fill_bytes.Reads as fill-bytes-reads
+use Rattle.spread.proofs.places.put_bytes as put-bytes
+use Rattle.spread.proofs.places.put_bytes.Reads as put-bytes-reads
 use Rattle.spread.proofs.record.of_record as of-record
 use Rattle.spread.proofs.record.of_record.Reads as of-record-reads
 use Rattle.spread.proofs.record.upto_of as upto-of
@@ -24,6 +28,13 @@ highest-one κs a v v′ w w′ p p′ = (p ∙ sym p′, refl)
 pub fill-one : One fill.ended fill-reads.Post
 fill-one κs a v v′ w w′ p p′ =
     (refl, both refl (both refl (both refl (both refl (both refl (both (p .0 ∙ sym (p′ .0)) (both (p .1 ∙ sym (p′ .1)) refl)))))))
+
+pub fill-bytes-one : One fill-bytes.ended fill-bytes-reads.Post
+fill-bytes-one κs a v v′ w w′ p p′ =
+    (refl, both refl (both refl (both refl (both refl (both refl (both (p .0 ∙ sym (p′ .0)) (both (p .1 ∙ sym (p′ .1)) refl)))))))
+
+pub put-bytes-one : One put-bytes.ended put-bytes-reads.Post
+put-bytes-one κs a v v′ w w′ p p′ = (refl, both refl (both refl (both (p ∙ sym p′) refl)))
 
 pub of-record-one : One of-record.ended of-record-reads.Post
 of-record-one κs a v v′ w w′ p p′ = (p ∙ sym p′, refl)

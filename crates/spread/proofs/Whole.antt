@@ -26,7 +26,8 @@ use Rattle.rules.proofs.Order.{OfRecord, of-record-is}
 use Rattle.rules.proofs.Cover.{Carries, carries-is}
 use Rattle.rules.proofs.Search.{Of}
 use Rattle.rules.proofs.Traces.{given, found-trace, not-carried}
-use Rattle.rules.proofs.Spreads.{turns-length, turns-after, turns-at, highest-is}
+use Rattle.rules.proofs.Turns.{turns-length, turns-after, turns-at}
+use Rattle.rules.proofs.Spreads.{highest-is}
 use Rattle.spread.specs.Takes.{between, Takes, here, hereUpTo, Accepted}
 use Rattle.spread.proofs.Taken.{is-between, not-before, takes-not, takes-as, takes-then}
 use Rattle.spread.proofs.Reached.{meets}

@@ -2,7 +2,7 @@
 // two lent slices. The numbers of R's points and the R lines of one relation line's receivers stand in arrays of the call.
 ghost use mathlib.Core.Path.{_≡_};
 ghost use mathlib.Core.Bool.{true};
-ghost use Prim.Native.Nat.{_≤_, _<_};
+ghost use Prim.Native.Nat.{_*_, _≤_, _<_};
 ghost use lib.ListN.{length};
 ghost use Rattle.rules.specs.Plan.{fine, run};
 ghost use Rattle.rules.specs.Layout.{sps93};
@@ -12,7 +12,7 @@ ghost use Rattle.rules.specs.Cover.{carries};
 ghost use Rattle.rules.specs.Check.{rules};
 ghost use Rattle.rules.specs.Questions.{recordAsked};
 ghost use Rattle.rules.specs.Lookup.{found};
-ghost use Rattle.rules.specs.Spread.{highestOf, lineOf, componentOf, turns, place};
+ghost use Rattle.rules.specs.Spread.{highestOf, lineOf, componentOf, turns, place, bytePlace};
 ghost use Rattle.order.specs.Held.{HoldsPoints, RelationLine};
 ghost use Rattle.spread.specs.Takes.{TakeBoth, Room, here, hereUpTo, Accepted, lineIn, componentIn, lineAt, componentAt};
 use records::relation;
@@ -154,4 +154,25 @@ pub fn fill(
     let mut at = [0u16; 9999];
     places::clear(highest(x, t, n) as usize, lines, components);
     write(r, s, x, t, n, &mut a, &mut at, lines, components);
+}
+
+// The same where the lines are a byte slice, two bytes a number, low byte first.
+pub fn fill_bytes(
+    r: &[u8],
+    s: &[u8],
+    x: &[u8],
+    t: &[u8],
+    n: u64,
+    lines: &mut [u8],
+    components: &mut [u8],
+)
+    requires { ⌜ ((fine ≡ run (rules (file (now r)) (file (now s)) (file (now x)))) × (recordAsked sps93 (now t) n ≡ true)) × ((2 * highestOf (file (now x)) (now t) n ≤ length (now lines)) × (highestOf (file (now x)) (now t) n ≤ length (now components))) ⌝ }
+    ensures written { λ _. ⌜
+        (now (lines .exit) ≡ turns (bytePlace (λ c. lineOf (found (file (now (r .entry))) (file (now (x .entry))) (now (t .entry)) n c))) (highestOf (file (now (x .entry))) (now (t .entry)) n) (now (lines .entry)))
+        × (now (components .exit) ≡ turns (place (λ c. componentOf (found (file (now (r .entry))) (file (now (x .entry))) (now (t .entry)) n c))) (highestOf (file (now (x .entry))) (now (t .entry)) n) (now (components .entry)))
+        ⌝ }
+{
+    let mut numbers = [0u16; 9999];
+    fill(r, s, x, t, n, &mut numbers, components);
+    places::put_bytes(&numbers, highest(x, t, n) as usize, lines);
 }

@@ -1,6 +1,8 @@
 // The places of one relation line: the R lines of its receivers, and from them what its channels take.
+ghost use mathlib.Core.Path.{_≡_};
 ghost use Prim.Native.Nat.{_+_, _-_, _*_, _/_, _%_, _≤_, _<_};
 ghost use lib.ListN.{length, getD};
+ghost use Rattle.rules.specs.Spread.{turns, bytePlace};
 ghost use Rattle.spread.specs.Takes.{between, TakeBoth, Room};
 ghost use Rattle.spread.specs.Seats.{Seat, AllThere, Seated};
 
@@ -78,5 +80,25 @@ pub fn put(
         lines[c - 1] = at[(c - from) / step];
         components[c - 1] = ((c - from) % step) as u8 + 1;
         c += 1;
+    }
+}
+
+// The high byte of a number.
+fn high(n: u16) -> u8
+    ensures value { λ b. ⌜ b ≡ n / 256 ⌝ }
+{
+    (n / 256) as u8
+}
+
+// Puts the first h of those numbers into the first places of a byte slice, low byte first.
+pub fn put_bytes(numbers: &[u16], h: usize, lines: &mut [u8])
+    requires { ⌜ (h ≤ length (now numbers)) × (2 * h ≤ length (now lines)) ⌝ }
+    ensures written { λ _. ⌜ now (lines .exit) ≡ turns (bytePlace (λ c. getD (now (numbers .entry)) (c - 1) 0)) h (now (lines .entry)) ⌝ }
+{
+    let mut i = 0;
+    while i < h {
+        lines[2 * i] = (numbers[i] % 256) as u8;
+        lines[2 * i + 1] = high(numbers[i]);
+        i += 1;
     }
 }

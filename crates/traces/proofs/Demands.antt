@@ -1,12 +1,14 @@
--- Demand 3 of the calls `trace`, `channel` and `spread_table`, from their contracts: what they answer of an accepted set.
+-- Demand 3 of the calls `trace`, `channel`, `spread_table` and `spread_bytes`, from their contracts: what they answer of an accepted set.
 --   leads          = a channel that a relation line carries leads to one R line and component: those of the line's arithmetic, and that
 --                    line holds the receiver of that name, number and index
 --   never-shared   = two channels of a tape and record never lead to the same
 --   there-and-back = the way back of a lookup's answer is that channel, and the lookup of a way back's answer is that line and component
---   agrees         = where the spread table is filled, each place up to the highest channel has what the lookup of its channel answers
+--   agrees         = where the spread table is filled, each place up to the highest channel has what the lookup of its channel answers,
+--                    and bytes-agree = the same of the byte form
 --   no-trace       = a channel is answered "no trace" exactly where no relation line carries it, and no-way-back = the same of the way back
-use Prim.Native.Nat.{ℕ, _+_, _-_, _≤_, _<_}
-use mathlib.Core.Path.{_≡_, sym, ap, _∙_}
+use Prim.Native.Nat.{ℕ, _+_, _-_, _/_, _≤_, _<_}
+use native.Mathlib.Omega.{arith}
+use mathlib.Core.Path.{_≡_, refl, sym, ap, _∙_}
 use mathlib.Core.Logic.{_↔_, Iff·trans}
 use mathlib.Core.List.{List}
 use lib.ListN.{length, getD}
@@ -17,7 +19,8 @@ use Rattle.rules.specs.Relations.{reachAt}
 use Rattle.rules.specs.Cover.{leads as leadsTo, component}
 use Rattle.rules.specs.Check.{Answer as PaperAnswer}
 use Rattle.rules.specs.Lookup.{lookup, wayBack}
-use Rattle.rules.specs.Spread.{highestOf, spreadVerdict, slice}
+use Rattle.rules.specs.Spread.{lineOf, highestOf, place, spreadVerdict, slice, spreadBytes}
+use Rattle.rules.specs.Hosts.{numbersOf}
 use Rattle.rules.proofs.Form.{Data}
 use Rattle.rules.proofs.Cover.{Carries}
 use Rattle.rules.proofs.Order.{Receiver}
@@ -26,7 +29,8 @@ use Rattle.rules.proofs.Search.{Of}
 use Rattle.rules.proofs.Traces.{Leads, Stands}
 use Rattle.rules.proofs.Demand3.{Asked, AskedChannel, AskedLine, lookup-leads, lookup-once, there-and-back as forth-and-back, lookup-none, back-none}
 use Rattle.rules.proofs.Disc.{askable}
-use Rattle.rules.proofs.Spreads.{slice-agrees}
+use Rattle.rules.proofs.Turns.{numbers-length}
+use Rattle.rules.proofs.Spreads.{spread-fine, slice-agrees, slice-numbers}
 use Rattle.traces.specs.declared.Answer.{Answer}
 use Rattle.traces.specs.declared.Answer.the-variants.{Trace, Channel, NoTrace}
 use Rattle.traces.specs.Paper.{paper}
@@ -75,6 +79,16 @@ module _ (r s x : List ℕ) where
     -- either slice: `part` is its part of an answer
     pub agrees : (part : PaperAnswer → ℕ) (p q : ℕ) (d : List ℕ) → spreadVerdict (file r) (file s) (file x) t n p q ≡ fine
         → (c : ℕ) (a : Answer) → paper a ≡ lookup (file r) (file s) (file x) t n (c + 1) → highestOf (file x) t n ≤ length d
-        → c < highestOf (file x) t n → getD (slice part (file r) (file s) (file x) t n p q d) c 0 ≡ part (paper a)
+        → c < highestOf (file x) t n → getD (slice place part (file r) (file s) (file x) t n p q d) c 0 ≡ part (paper a)
     agrees part p q d ok c a e l h =
-        slice-agrees (file r) (file s) (file x) t n p q part d ok c l h ∙ ap part (sym e)
+        slice-agrees (file r) (file s) (file x) t n p q ok part d c l h ∙ ap part (sym e)
+
+    -- the byte form, read as numbers
+    pub bytes-agree : (q : ℕ) (d : List ℕ) → spreadVerdict (file r) (file s) (file x) t n (length d / 2) q ≡ fine
+        → (c : ℕ) (a : Answer) → paper a ≡ lookup (file r) (file s) (file x) t n (c + 1) → c < highestOf (file x) t n
+        → getD (numbersOf (spreadBytes (file r) (file s) (file x) t n (length d / 2) q d)) c 0 ≡ lineOf (paper a)
+    bytes-agree q d ok c a e h =
+        let l = numbers-length d in
+        let m = spread-fine (file r) (file s) (file x) t n (length d / 2) q .0 ok .1 .1 .0 in
+        ap (λ (k : List ℕ). getD k c 0) (slice-numbers (file r) (file s) (file x) t n (length d / 2) q lineOf d refl)
+        ∙ agrees lineOf (length d / 2) q (numbersOf d) ok c a e (omega arith) h

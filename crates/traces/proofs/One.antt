@@ -9,6 +9,8 @@ use Rattle.traces.specs.declared.Spread.the-variants.{Highest, Refused a
 use Rattle.traces.specs.Paper.{paper, paperSpread}
 use Rattle.traces.proofs.spread_table as spread-table
 use Rattle.traces.proofs.spread_table.Reads as spread-table-reads
+use Rattle.traces.proofs.spread_bytes as spread-bytes
+use Rattle.traces.proofs.spread_bytes.Reads as spread-bytes-reads
 use Rattle.traces.proofs.asked.record as asked-record
 use Rattle.traces.proofs.asked.record.Reads as asked-record-reads
 use Rattle.traces.proofs.asked.channel as asked-channel
@@ -86,6 +88,12 @@ spread-one (Denied n f l c) (Denied n′ f′ l′ c′) e = cc
 
 pub spread-table-one : One spread-table.ended spread-table-reads.Post
 spread-table-one κs a v v′ w w′ p p′ = (
+  spread-one v v′ (p .0 ∙ sym (p′ .0)),
+  both refl (both refl (both refl (both refl (both refl (both (p .1 .0 ∙ sym (p′ .1 .0)) (both (p .1 .1 ∙ sym (p′ .1 .1)) refl)))))),
+)
+
+pub spread-bytes-one : One spread-bytes.ended spread-bytes-reads.Post
+spread-bytes-one κs a v v′ w w′ p p′ = (
   spread-one v v′ (p .0 ∙ sym (p′ .0)),
   both refl (both refl (both refl (both refl (both refl (both (p .1 .0 ∙ sym (p′ .1 .0)) (both (p .1 .1 ∙ sym (p′ .1 .1)) refl)))))),
 )

@@ -2,7 +2,7 @@
 // after the question's own range.
 ghost use mathlib.Core.Path.{_≡_};
 ghost use mathlib.Core.Bool.{true};
-ghost use Prim.Native.Nat.{ℕ, _-_, _≤_, _<_};
+ghost use Prim.Native.Nat.{ℕ, _-_, _/_, _≤_, _<_};
 ghost use Rattle.rules.specs.Disc.{file};
 ghost use Rattle.rules.specs.Lines.{isData};
 ghost use Rattle.rules.specs.Relations.{reachAt};
@@ -11,7 +11,7 @@ ghost use Rattle.rules.specs.Points.{pointAt};
 ghost use Rattle.rules.specs.Check.{channel as channelAnswer};
 ghost use Rattle.rules.specs.Lookup.{reaches, found as foundOf, foundBack, lookup, wayBack};
 ghost use lib.ListN.{length};
-ghost use Rattle.rules.specs.Spread.{spread as spreadOf, spreadLines, spreadComponents};
+ghost use Rattle.rules.specs.Spread.{spread as spreadOf, spreadLines, spreadComponents, spreadBytes};
 ghost use Rattle.traces.specs.Paper.{paper, paperSpread};
 ghost use Rattle.traces.specs.Steps.{Asked, Accepted, tracedOn};
 use records::relation;
@@ -127,6 +127,27 @@ pub fn channel(r: &[u8], s: &[u8], x: &[u8], t: &[u8], n: u64, j: u64, m: u64) -
     }
 }
 
+// What the spread table is answered for slices of p and q places.
+fn judged(r: &[u8], s: &[u8], x: &[u8], t: &[u8], n: u64, p: usize, q: usize) -> Spread
+    ensures answer { λ a. ⌜ paperSpread a ≡ spreadOf (file (now (r .entry))) (file (now (s .entry))) (file (now (x .entry))) (now (t .entry)) n p q ⌝ }
+{
+    if !asked::record(t, n) {
+        return Spread::Refused(20, 0, 0, 0);
+    }
+    let v = sets::check(r, s, x);
+    if let SetAnswer::Refused(i, f, l, e) = v {
+        return Spread::Refused(i, f, l, e);
+    }
+    let h = spread::highest(x, t, n);
+    if (p as u64) < h {
+        return Spread::Refused(21, 0, 0, 0);
+    }
+    if (q as u64) < h {
+        return Spread::Refused(21, 0, 0, 0);
+    }
+    Spread::Highest(h)
+}
+
 // The spread table: place c - 1 of the slices takes the R line and the component of channel c, or 0 and 0, up to the record's highest
 // covered channel; later places stay, and a refusal writes nothing.
 pub fn spread_table(
@@ -141,20 +162,31 @@ pub fn spread_table(
     ensures answer { λ a. ⌜ paperSpread a ≡ spreadOf (file (now (r .entry))) (file (now (s .entry))) (file (now (x .entry))) (now (t .entry)) n (length (now (lines .entry))) (length (now (components .entry))) ⌝ }
     ensures written { λ _. ⌜ (now (lines .exit) ≡ spreadLines (file (now (r .entry))) (file (now (s .entry))) (file (now (x .entry))) (now (t .entry)) n (length (now (lines .entry))) (length (now (components .entry))) (now (lines .entry))) × (now (components .exit) ≡ spreadComponents (file (now (r .entry))) (file (now (s .entry))) (file (now (x .entry))) (now (t .entry)) n (length (now (lines .entry))) (length (now (components .entry))) (now (components .entry))) ⌝ }
 {
-    if !asked::record(t, n) {
-        return Spread::Refused(20, 0, 0, 0);
-    }
-    let v = sets::check(r, s, x);
-    if let SetAnswer::Refused(i, f, l, e) = v {
-        return Spread::Refused(i, f, l, e);
-    }
-    let h = spread::highest(x, t, n);
-    if (lines.len() as u64) < h {
-        return Spread::Refused(21, 0, 0, 0);
-    }
-    if (components.len() as u64) < h {
-        return Spread::Refused(21, 0, 0, 0);
+    let a = judged(r, s, x, t, n, lines.len(), components.len());
+    if let Spread::Refused(_, _, _, _) = a {
+        return a;
     }
     spread::fill(r, s, x, t, n, lines, components);
-    Spread::Highest(h)
+    a
+}
+
+// The same for hosts whose slices are bytes: two bytes a number, low byte first; an odd last byte is no place and stays.
+pub fn spread_bytes(
+    r: &[u8],
+    s: &[u8],
+    x: &[u8],
+    t: &[u8],
+    n: u64,
+    lines: &mut [u8],
+    components: &mut [u8],
+) -> Spread
+    ensures answer { λ a. ⌜ paperSpread a ≡ spreadOf (file (now (r .entry))) (file (now (s .entry))) (file (now (x .entry))) (now (t .entry)) n (length (now (lines .entry)) / 2) (length (now (components .entry))) ⌝ }
+    ensures written { λ _. ⌜ (now (lines .exit) ≡ spreadBytes (file (now (r .entry))) (file (now (s .entry))) (file (now (x .entry))) (now (t .entry)) n (length (now (lines .entry)) / 2) (length (now (components .entry))) (now (lines .entry))) × (now (components .exit) ≡ spreadComponents (file (now (r .entry))) (file (now (s .entry))) (file (now (x .entry))) (now (t .entry)) n (length (now (lines .entry)) / 2) (length (now (components .entry))) (now (components .entry))) ⌝ }
+{
+    let v = judged(r, s, x, t, n, lines.len() / 2, components.len());
+    if let Spread::Refused(_, _, _, _) = v {
+        return v;
+    }
+    spread::fill_bytes(r, s, x, t, n, lines, components);
+    v
 }

@@ -1,55 +1,31 @@
 -- `traces::spread_table` meets its contract. Assumes nothing.
-use Rattle.traces.proofs.Sets.{fine-rules, first-out, second-out, set-accepted, set-refused}
-use Rattle.traces.proofs.Tables.{fills, not-asked, set-refuses, too-short}
+use Rattle.rules.specs.Spread.{place, lineOf, componentOf}
+use Rattle.traces.proofs.Tables.{leaves, may-fill, fills}
 use borrow.Author.Needs.{needs}
-use borrow.Author.Tests.{le-leb, lt-leb, not-false, not-true}
-use mathlib.Core.Path.{_∙_, sym}
-use native.Mathlib.Omega.{arith}
 use Rattle.traces.proofs.spread_table.Statement.{statement}
 use Rattle.traces.proofs.spread_table.Tie as tie
 
-record-requires : tie.Need-record-requires
-record-requires c κs = search needs
-
-returns : tie.Need-returns
-returns c =
-    let x = c .before .before .before .before .before .before .before .before .args in
-    not-asked (x .r .now) (x .s .now) (x .x .now) (x .t .now) (x .n) _ _ (x .lines .now) (x .components .now) (sym (c .before .«record» .ensures) ∙ not-true _ (c .if1 .taken))
-
-check-requires : tie.Need-check-requires
-check-requires c κs = search needs
-
-enum-known-v : tie.Need-enum-known-v
-enum-known-v c = search needs
-
-returns-2 : tie.Need-returns-2
-returns-2 c =
-    let x = c .before .before .before .before .before .before .before .before .before .before .before .before .args in
-    set-refuses (x .r .now) (x .s .now) (x .x .now) (x .t .now) (x .n) _ _ (x .lines .now) (x .components .now) (sym (c .before .before .before .before .before .«record» .ensures) ∙ not-false _ (c .before .before .before .before .if1 .left)) _ (set-refused (x .r .now) (x .s .now) (x .x .now) _ (c .before .before .before .check .ensures) _ _ _ _ (c .before .v .given .1))
+judged-requires : tie.Need-judged-requires
+judged-requires c κs = search needs
 
 enum-told : tie.Need-enum-told
 enum-told c = search needs
 
-highest-requires : tie.Need-highest-requires
-highest-requires c κs = sym (c .before .before .before .before .«record» .ensures) ∙ not-false _ (c .before .before .before .if1 .left)
+returns : tie.Need-returns
+returns c =
+    let x = c .before .before .before .before .before .before .before .before .before .args in
+    let e = c .before .before .judged .ensures in
+    let z = c .enum-told .given .1 in
+    (e, (leaves (x .r .now) (x .s .now) (x .x .now) (x .t .now) (x .n) _ _ _ e place lineOf (x .lines .now) _ _ _ _ z, leaves (x .r .now) (x .s .now) (x .x .now) (x .t .now) (x .n) _ _ _ e place componentOf (x .components .now) _ _ _ _ z))
 
-returns-3 : tie.Need-returns-3
-returns-3 c =
-    let x = c .before .before .before .before .before .before .before .before .before .before .before .before .before .args in
-    too-short (x .r .now) (x .s .now) (x .x .now) (x .t .now) (x .n) _ _ (x .lines .now) (x .components .now) (sym (c .before .before .before .before .before .before .«record» .ensures) ∙ not-false _ (c .before .before .before .before .before .if1 .left)) (set-accepted (x .r .now) (x .s .now) (x .x .now) _ (c .before .before .before .before .check .ensures) _ _ _ _ (c .before .before .enum-told .given .1)) _ (c .before .highest .ensures) (first-out _ _ (lt-leb _ _ (c .if2 .taken)))
-
-returns-4 : tie.Need-returns-4
-returns-4 c =
-    let x = c .before .before .before .before .before .before .before .before .before .before .before .before .before .before .args in
-    too-short (x .r .now) (x .s .now) (x .x .now) (x .t .now) (x .n) _ _ (x .lines .now) (x .components .now) (sym (c .before .before .before .before .before .before .before .«record» .ensures) ∙ not-false _ (c .before .before .before .before .before .before .if1 .left)) (set-accepted (x .r .now) (x .s .now) (x .x .now) _ (c .before .before .before .before .before .check .ensures) _ _ _ _ (c .before .before .before .enum-told .given .1)) _ (c .before .before .highest .ensures) (second-out _ _ (le-leb _ _ (c .before .if2 .left)) (lt-leb _ _ (c .if3 .taken)))
+enum-told-2 : tie.Need-enum-told-2
+enum-told-2 c = search needs
 
 fill-requires : tie.Need-fill-requires
 fill-requires c κs =
-    let x = c .before .before .before .before .before .before .before .before .before .before .before .before .before .before .before .before .args in
-    let q = c .before .before .before .before .highest .ensures in
-    let l = c .before .before .before .if2 .left in
-    let m = c .before .before .if3 .left in
-    ((fine-rules (x .r .now) (x .s .now) (x .x .now) (set-accepted (x .r .now) (x .s .now) (x .x .now) _ (c .before .before .before .before .before .before .before .check .ensures) _ _ _ _ (c .before .before .before .before .before .enum-told .given .1)), (sym (c .before .before .before .before .before .before .before .before .before .«record» .ensures) ∙ not-false _ (c .before .before .before .before .before .before .before .before .if1 .left))), (omega arith, omega arith))
+    let x = c .before .before .before .before .before .before .before .before .before .before .before .args in
+    let w = may-fill (x .r .now) (x .s .now) (x .x .now) (x .t .now) (x .n) _ _ _ (c .before .before .before .before .judged .ensures) _ (c .before .before .enum-told2 .given .1) in
+    w
 
 same-length : tie.Need-same-length
 same-length c = search needs
@@ -57,25 +33,23 @@ same-length c = search needs
 same-length-2 : tie.Need-same-length-2
 same-length-2 c = search needs
 
-returns-5 : tie.Need-returns-5
-returns-5 c =
-    let x = c .before .before .before .before .before .before .before .before .before .before .before .before .before .before .before .before .before .before .before .before .before .args in
-    fills (x .r .now) (x .s .now) (x .x .now) (x .t .now) (x .n) _ _ (x .lines .now) (x .components .now) (sym (c .before .before .before .before .before .before .before .before .before .before .before .before .before .before .«record» .ensures) ∙ not-false _ (c .before .before .before .before .before .before .before .before .before .before .before .before .before .if1 .left)) (set-accepted (x .r .now) (x .s .now) (x .x .now) _ (c .before .before .before .before .before .before .before .before .before .before .before .before .check .ensures) _ _ _ _ (c .before .before .before .before .before .before .before .before .before .before .enum-told .given .1)) _ (c .before .before .before .before .before .before .before .before .before .highest .ensures) (c .before .before .before .before .before .before .before .before .if2 .left) (c .before .before .before .before .before .before .before .if3 .left) _ _ (c .before .before .before .before .fill .ensures .0) (c .before .before .before .before .fill .ensures .1)
+returns-2 : tie.Need-returns-2
+returns-2 c =
+    let x = c .before .before .before .before .before .before .before .before .before .before .before .before .before .before .before .before .args in
+    let e = c .before .before .before .before .before .before .before .before .before .judged .ensures in
+    let z = c .before .before .before .before .before .before .before .enum-told2 .given .1 in
+    let w = c .before .before .before .before .fill .ensures in
+    (e, (fills (x .r .now) (x .s .now) (x .x .now) (x .t .now) (x .n) _ _ _ e _ z place lineOf (x .lines .now) _ (w .0), fills (x .r .now) (x .s .now) (x .x .now) (x .t .now) (x .n) _ _ _ e _ z place componentOf (x .components .now) _ (w .1)))
 
 pub spread-table-spec : {M : Type 1} → statement M
 spread-table-spec =
     tie.close
     (tie.spec
-    record-requires
-    returns
-    check-requires
-    enum-known-v
-    returns-2
+    judged-requires
     enum-told
-    highest-requires
-    returns-3
-    returns-4
+    returns
+    enum-told-2
     fill-requires
     same-length
     same-length-2
-    returns-5)
+    returns-2)
