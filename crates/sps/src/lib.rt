@@ -1,0 +1,112 @@
+// The calls for C hosts, which `include/sps.h` declares: the check, both lookups and the spread table, on numbers and byte slices.
+// Each carries the answer of the proved call over as one 64-bit number: a refusal from 2^40 on, any other answer below.
+ghost use mathlib.Core.Path.{_≡_};
+ghost use Prim.Native.Nat.{_/_};
+ghost use lib.ListN.{length};
+ghost use Rattle.rules.specs.Plan.{№};
+ghost use Rattle.rules.specs.Disc.{file};
+ghost use Rattle.rules.specs.Check.{check as checkOf};
+ghost use Rattle.rules.specs.Lookup.{lookup, wayBack};
+ghost use Rattle.rules.specs.Spread.{spread as spreadOf, spreadBytes, spreadComponents};
+ghost use Rattle.rules.specs.Hosts.{packed, hostNumber};
+ghost use Rattle.sets.specs.Paper.{paper as setPaper};
+ghost use Rattle.traces.specs.Paper.{paper as questionPaper, paperSpread};
+ghost use Rattle.sps.specs.Counts.{counted};
+use sets::Answer as SetAnswer;
+use traces::Answer;
+use traces::Spread;
+
+// A refusal as one number.
+fn pack(number: u8, place: u8, line: u32, column: u8) -> u64
+    ensures value { λ n. ⌜ n ≡ packed (№ number place line column) ⌝ }
+{
+    number as u64 * 1099511627776 + place as u64 * 4294967296 + line as u64 * 256 + column as u64
+}
+
+// The answer to the set check as one number: the traces.
+fn set_number(a: SetAnswer) -> u64
+    ensures value { λ n. ⌜ n ≡ hostNumber (setPaper a) ⌝ }
+{
+    match a {
+        SetAnswer::Accepted(_, _, _, t) => t,
+        SetAnswer::Refused(n, f, l, c) => pack(n, f, l, c),
+    }
+}
+
+// The answer to a lookup or the way back as one number: the R line and component, the channel, or 0.
+fn question_number(a: Answer) -> u64
+    ensures value { λ n. ⌜ n ≡ hostNumber (questionPaper a) ⌝ }
+{
+    match a {
+        Answer::Trace(l, m) => l as u64 * 16 + m as u64,
+        Answer::Channel(c) => c as u64,
+        Answer::NoTrace => 0,
+        Answer::Refused(n, f, l, c) => pack(n, f, l, c),
+    }
+}
+
+// The answer of the spread table as one number: the highest channel.
+fn spread_number(a: Spread) -> u64
+    ensures value { λ n. ⌜ n ≡ hostNumber (paperSpread a) ⌝ }
+{
+    match a {
+        Spread::Highest(h) => h,
+        Spread::Refused(n, f, l, c) => pack(n, f, l, c),
+    }
+}
+
+// Checks a set: its traces.
+#[no_mangle]
+pub extern "C" fn sps_check(r: &[u8], s: &[u8], x: &[u8]) -> u64
+    ensures answer { λ n. ⌜ n ≡ hostNumber (checkOf (file (now (r .entry))) (file (now (s .entry))) (file (now (x .entry)))) ⌝ }
+{
+    set_number(sets::check(r, s, x))
+}
+
+// The same, and the receivers, shots, relation lines and traces of an accepted set in counts, which a refusal leaves as they are.
+#[no_mangle]
+pub extern "C" fn sps_counts(r: &[u8], s: &[u8], x: &[u8], counts: &mut [u64; 4]) -> u64
+    ensures answer { λ n. ⌜ n ≡ hostNumber (checkOf (file (now (r .entry))) (file (now (s .entry))) (file (now (x .entry)))) ⌝ }
+    ensures written { λ _. ⌜ now (counts .exit) ≡ counted (checkOf (file (now (r .entry))) (file (now (s .entry))) (file (now (x .entry)))) (now (counts .entry)) ⌝ }
+{
+    match sets::check(r, s, x) {
+        SetAnswer::Accepted(n, m, k, t) => {
+            *counts = [n, m, k, t];
+            t
+        }
+        SetAnswer::Refused(n, f, l, c) => pack(n, f, l, c),
+    }
+}
+
+// The lookup: R line * 16 + component, 0 for no trace.
+#[no_mangle]
+pub extern "C" fn sps_trace(r: &[u8], s: &[u8], x: &[u8], t: &[u8], n: u64, c: u64) -> u64
+    ensures answer { λ a. ⌜ a ≡ hostNumber (lookup (file (now (r .entry))) (file (now (s .entry))) (file (now (x .entry))) (now (t .entry)) n c) ⌝ }
+{
+    question_number(traces::trace(r, s, x, t, n, c))
+}
+
+// The way back: the channel, 0 for no trace.
+#[no_mangle]
+pub extern "C" fn sps_channel(r: &[u8], s: &[u8], x: &[u8], t: &[u8], n: u64, j: u64, m: u64) -> u64
+    ensures answer { λ a. ⌜ a ≡ hostNumber (wayBack (file (now (r .entry))) (file (now (s .entry))) (file (now (x .entry))) (now (t .entry)) n j m) ⌝ }
+{
+    question_number(traces::channel(r, s, x, t, n, j, m))
+}
+
+// The spread table: the highest channel; the lines are numbers of two bytes, low byte first.
+#[no_mangle]
+pub extern "C" fn sps_spread(
+    r: &[u8],
+    s: &[u8],
+    x: &[u8],
+    t: &[u8],
+    n: u64,
+    lines: &mut [u8],
+    components: &mut [u8],
+) -> u64
+    ensures answer { λ a. ⌜ a ≡ hostNumber (spreadOf (file (now (r .entry))) (file (now (s .entry))) (file (now (x .entry))) (now (t .entry)) n (length (now (lines .entry)) / 2) (length (now (components .entry)))) ⌝ }
+    ensures written { λ _. ⌜ (now (lines .exit) ≡ spreadBytes (file (now (r .entry))) (file (now (s .entry))) (file (now (x .entry))) (now (t .entry)) n (length (now (lines .entry)) / 2) (length (now (components .entry))) (now (lines .entry))) × (now (components .exit) ≡ spreadComponents (file (now (r .entry))) (file (now (s .entry))) (file (now (x .entry))) (now (t .entry)) n (length (now (lines .entry)) / 2) (length (now (components .entry))) (now (components .entry))) ⌝ }
+{
+    spread_number(traces::spread_bytes(r, s, x, t, n, lines, components))
+}
