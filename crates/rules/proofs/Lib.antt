@@ -21,4 +21,6 @@ pub mod Disc
 pub mod Counts
 pub mod Turns
 pub mod Spreads
+pub mod Listed
+pub mod Hosts
 pub mod Table

@@ -1,0 +1,157 @@
+-- "A C host gets one 64-bit number": a refusal is never below 2^40, any other answer always is, and the parts come back.
+--   Sized a        = the parts of an answer are within what the paper names
+--   tells          = the number is from 2^40 on exactly where the answer is a refusal
+--   refusal-parts, trace-parts = the parts of a refusal and of a trace, from the number
+--   check-sized, lookup-sized, back-sized, spread-sized = what the calls answer of disc files is so
+use Prim.Native.Nat.{ℕ, zero, suc, _+_, _*_, _/_, _%_, _^_, _≤_, _<_}
+use native.Mathlib.Nat.{lt-suc-self}
+use native.Mathlib.Omega.{arith}
+use mathlib.Core.Path.{_≡_, refl, sym, subst, _∙_}
+use mathlib.Core.Logic.{_↔_, ⊎-elim}
+use mathlib.Core.Bool.{Bool, true, false, _&&_}
+use mathlib.Core.List.{List}
+use Rattle.rules.specs.Places.{pick, sum}
+use Rattle.rules.specs.Plan.{Refusal, №, Verdict, fine, refused, Plan, _before_, run}
+use Rattle.rules.specs.Layout.{sps93}
+use Rattle.rules.specs.Sheet.{mostLines}
+use Rattle.rules.specs.Disc.{disc, file}
+use Rattle.rules.specs.Lines.{isData}
+use Rattle.rules.specs.Relations.{reachAt}
+use Rattle.rules.specs.Cover.{traces}
+use Rattle.rules.specs.Check.{Answer, accepted, refusal, trace, channel, highest, noTrace, allTraces, rules, verdict, answer, check}
+use Rattle.rules.specs.Questions.{rule20}
+use Rattle.rules.specs.Lookup.{found, foundBack, lookup, wayBack}
+use Rattle.rules.specs.Spread.{highestOf, rule21, spreadVerdict, spread}
+use Rattle.rules.specs.Hosts.{packed, hostNumber}
+use Rattle.rules.proofs.Breach.{no-fine}
+use Rattle.rules.proofs.Form.{data-is}
+use Rattle.rules.proofs.Meets.{Meets, verdict-meets}
+use Rattle.rules.proofs.Accepted.{sound}
+use Rattle.rules.proofs.Traces.{found-view, back-view, traced-range, back-range}
+use Rattle.rules.proofs.Demand3.{asked-then}
+use Rattle.rules.proofs.Spreads.{spread-fine, few}
+use Rattle.rules.proofs.Listed.{Only, run-only, Listed, at-line, rules-listed}
+
+abbrev pub Sized : Answer → Type 0
+Sized (accepted a b c t) = t < 2 ^ 40
+Sized (refusal w) = Listed w
+Sized (trace l m) = (l ≤ 9999) × ((1 ≤ m) × (m ≤ 9))
+Sized (channel c) = c ≤ 9999
+Sized (highest c) = c ≤ 9999
+Sized noTrace = Unit {0}
+
+pub refusal-parts : (n f l c : ℕ) → Listed (№ n f l c)
+    → (packed (№ n f l c) / 2 ^ 40 ≡ n)
+    × ((packed (№ n f l c) / 2 ^ 32 % 256 ≡ f) × ((packed (№ n f l c) / 256 % 2 ^ 24 ≡ l) × (packed (№ n f l c) % 256 ≡ c)))
+unfolding packed
+refusal-parts n f l c w =
+    let a = w .1 .0 in
+    let b = w .1 .1 .0 in
+    let d = w .1 .1 .1 in
+    (omega arith, (omega arith, (omega arith, omega arith)))
+
+pub trace-parts : (l m : ℕ) → m ≤ 9 → (hostNumber (trace l m) / 16 ≡ l) × (hostNumber (trace l m) % 16 ≡ m)
+unfolding hostNumber
+trace-parts l m h = (omega arith, omega arith)
+
+refusal-above : (w : Refusal) → Listed w → 2 ^ 40 ≤ packed w
+unfolding packed
+refusal-above (№ n f l c) h = let a = h .0 .0 in omega arith
+
+-- an answer that is no refusal
+below : (a : Answer) → hostNumber a < 2 ^ 40 → ((w : Refusal) → a ≡ refusal w → ⊥)
+    → (2 ^ 40 ≤ hostNumber a) ↔ ((w : Refusal) × (a ≡ refusal w))
+below a l n = (λ h. absurd (omega arith), λ w. absurd (n (w .0) (w .1)))
+
+pub tells : (a : Answer) → Sized a → (2 ^ 40 ≤ hostNumber a) ↔ ((w : Refusal) × (a ≡ refusal w))
+unfolding hostNumber
+tells (accepted a b c t) z = below (accepted a b c t) z (λ w e. let y : _≡_ {A = ℕ} 0 1 = cc in omega arith)
+tells (refusal w) z = (λ _. (w, refl), λ _. refusal-above w z)
+tells (trace l m) z =
+    let p = z .0 in
+    let q = z .1 .1 in
+    below (trace l m) (omega arith) (λ w e. let y : _≡_ {A = ℕ} 0 1 = cc in omega arith)
+tells (channel c) z = below (channel c) (omega arith) (λ w e. let y : _≡_ {A = ℕ} 0 1 = cc in omega arith)
+tells (highest c) z = below (highest c) (omega arith) (λ w e. let y : _≡_ {A = ℕ} 0 1 = cc in omega arith)
+tells noTrace z = below noTrace (omega arith) (λ w e. let y : _≡_ {A = ℕ} 0 1 = cc in omega arith)
+
+-- a plan, and what is answered where it refuses nothing
+answer-sized : (p : Plan) (a : Answer) → Only Listed p → (run p ≡ fine → Sized a) → Sized (answer (run p) a)
+unfolding answer
+answer-sized p a o f = go (run p) refl
+  where
+    go : (v : Verdict) → run p ≡ v → Sized (answer v a)
+    go fine e = f e
+    go (refused w) e = run-only Listed p w o e
+
+-- the traces of a set
+sum-few : (n : ℕ) (g : ℕ → ℕ) → ((k : ℕ) → k < n → g k ≤ 9999) → sum n g ≤ 9999 * n
+unfolding sum
+sum-few zero g f = omega arith
+sum-few (suc n) g f =
+    let i = sum-few n g (λ k h. f k (omega arith)) in
+    let l = f n (lt-suc-self n) in
+    omega arith
+
+pick-few : (t : Bool) (m : ℕ) → (t ≡ true → m ≤ 9999) → pick t m 0 ≤ 9999
+unfolding pick
+pick-few true m f = f refl
+pick-few false m f = omega arith
+
+module _ (r s x : List ℕ) where
+  traces-few : Meets (file r) (file s) (file x) → allTraces (file x) < 2 ^ 40
+  unfolding allTraces traces mostLines disc sps93
+  traces-few ok =
+      let n = ok .formX .rule2 in
+      let l =
+      sum-few (file x .count) (λ k. pick (isData (file x) k) (traces (reachAt (file x) k)) 0)
+      (λ k h.
+      pick-few (isData (file x) k) (traces (reachAt (file x) k))
+      (λ e.
+      let w = sound (file r) (file s) (file x) ok k h (data-is (file x) k .0 e) in
+      let a = w .first in
+      let b = w .most in
+      omega arith)) in
+      omega arith
+
+  met : run (rules (file r) (file s) (file x)) ≡ fine → Meets (file r) (file s) (file x)
+  unfolding verdict
+  met e = verdict-meets (file r) (file s) (file x) .0 e
+
+  pub check-sized : Sized (check (file r) (file s) (file x))
+  unfolding check verdict
+  check-sized = answer-sized (rules (file r) (file s) (file x)) _ (rules-listed r s x) (λ e. traces-few (met e))
+
+  -- a question: 20, then the set's own
+  question-sized : (b : Bool) (a : Answer) → (Meets (file r) (file s) (file x) → Sized a)
+      → Sized (answer (run (rule20 b before rules (file r) (file s) (file x))) a)
+  unfolding rule20
+  question-sized b a f =
+      answer-sized (rule20 b before rules (file r) (file s) (file x)) a (at-line 20 0 0 0 refl (omega arith), λ _. rules-listed r s x)
+      (λ e. f (met (asked-then b (rules (file r) (file s) (file x)) (run (rules (file r) (file s) (file x))) refl .0 e .1)))
+
+  module _ (t : List ℕ) (n : ℕ) where
+    pub lookup-sized : (c : ℕ) → Sized (lookup (file r) (file s) (file x) t n c)
+    unfolding lookup mostLines
+    lookup-sized c =
+        question-sized _ _
+        (λ ok.
+        ⊎-elim
+        (λ w. let v = traced-range (file r) (file s) (file x) ok t n c _ _ (w .2) in subst Sized (sym (w .2)) (v .1))
+        (λ w. subst Sized (sym (w .1)) tt) (found-view (file r) (file x) t n c))
+
+    pub back-sized : (j m : ℕ) → Sized (wayBack (file r) (file s) (file x) t n j m)
+    unfolding wayBack disc sps93
+    back-sized j m =
+        question-sized _ _
+        (λ ok.
+        ⊎-elim
+        (λ w. let v = back-range (file r) (file s) (file x) ok t n _ j m (w .1 .2) in subst Sized (sym (w .1 .2)) (v .1))
+        (λ w. subst Sized (sym (w .1)) tt) (back-view (file r) (file x) t n j m))
+
+    pub spread-sized : (a b : ℕ) → Sized (spread (file r) (file s) (file x) t n a b)
+    unfolding spread spreadVerdict rule20 rule21 disc sps93
+    spread-sized a b =
+        answer-sized _ _
+        (at-line 20 0 0 0 refl (omega arith), λ _. (rules-listed r s x, λ _. at-line 21 0 0 0 refl (omega arith)))
+        (λ e. few (file r) (file s) (file x) t n a b e)
