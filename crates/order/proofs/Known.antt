@@ -28,7 +28,7 @@ use Rattle.fields.specs.Packed.{packed, nameOf as numbersOf}
 use Rattle.fields.proofs.Codes.{first-column}
 use Rattle.rows.specs.Numbers.{Small, Clean, mark, pointMark, pointRow, relationRow, recordOf, numberOf as rowNumber}
 use Rattle.rows.proofs.Bytes.{Long, Wide, cols-long}
-use Rattle.order.specs.Held.{Known, HoldsPoints, HoldsRelations, HoldsRecords}
+use Rattle.order.specs.Held.{Known, HoldsPoints, HoldsReaches, HoldsRecords}
 
 beyond : (l : List ℕ) (c : ℕ) → length l ≤ c → getD l c 0 ≡ 0
 beyond [] c h = refl
@@ -148,52 +148,57 @@ module _ (f a : List ℕ) (w : HoldsPoints f a) (k : ℕ) (h : k < file f .count
   unfolding pointRow pointMark isPoint isData pointAt disc
   key-mark = point-at 2 (lit≤ tt)
 
-module _ (x b : List ℕ) (w : HoldsRelations x b) (k : ℕ) (h : k < file x .count) where
-  cell-at : (c : ℕ) → c < 10 → getD b (10 * k + c) 0 ≡ getD (relationRow (file x .row k)) c 0
+-- the numbers of line k that are read from the text
+module _ (x : List ℕ) (k : ℕ) where
+  abbrev pub number : ℕ → ℕ
+  number c = getD (relationRow (file x .row k)) c 0
+
+  pub source-hi : number 0 ≡ numbersOf (relationAt (file x) k .source) .hi
+  unfolding relationRow relationAt disc
+  source-hi = refl
+
+  pub source-lo : number 1 ≡ numbersOf (relationAt (file x) k .source) .lo
+  unfolding relationRow relationAt disc
+  source-lo = refl
+
+  pub shot-mark : number 2 ≡ mark (relationAt (file x) k .shot) (relationAt (file x) k .shotIndex)
+  unfolding relationRow relationAt disc
+  shot-mark = refl
+
+  pub set-mark : number 3 ≡ mark (relationAt (file x) k .increment) (relationAt (file x) k .instrument)
+  unfolding relationRow relationAt disc
+  set-mark = refl
+
+  pub channels-at : number 9 ≡ 65536 * reachAt (file x) k .from + reachAt (file x) k .upto
+  unfolding relationRow relation reachAt disc
+  channels-at = refl
+
+module _ (x b : List ℕ) (w : HoldsReaches x b) (k : ℕ) (h : k < file x .count) where
+  cell-at : (c : ℕ) → c < 5 → getD b (5 * k + c) 0 ≡ number x k (4 + c)
   unfolding rowNumber
   cell-at c g =
-      w .1 (10 * k + c) (omega arith)
-      ∙ ap₂ (λ (j d : ℕ). getD (relationRow (file x .row j)) d 0) (let z : (10 * k + c) / 10 ≡ k = omega arith in z) (let z : (10 * k + c) % 10 ≡ c = omega arith in z)
+      w .1 (5 * k + c) (omega arith)
+      ∙ ap₂ (λ (j d : ℕ). number x j (4 + d)) (let z : (5 * k + c) / 5 ≡ k = omega arith in z) (let z : (5 * k + c) % 5 ≡ c = omega arith in z)
 
-  pub source-hi : getD b (10 * k) 0 ≡ numbersOf (relationAt (file x) k .source) .hi
-  unfolding relationRow relationAt disc
-  source-hi = ap (λ (n : ℕ). getD b n 0) (let z : 10 * k ≡ 10 * k + 0 = omega arith in z) ∙ cell-at 0 (lit≤ tt)
-
-  pub source-lo : getD b (10 * k + 1) 0 ≡ numbersOf (relationAt (file x) k .source) .lo
-  unfolding relationRow relationAt disc
-  source-lo = cell-at 1 (lit≤ tt)
-
-  pub shot-mark : getD b (10 * k + 2) 0 ≡ mark (relationAt (file x) k .shot) (relationAt (file x) k .shotIndex)
-  unfolding relationRow relationAt disc
-  shot-mark = cell-at 2 (lit≤ tt)
-
-  pub set-mark : getD b (10 * k + 3) 0 ≡ mark (relationAt (file x) k .increment) (relationAt (file x) k .instrument)
-  unfolding relationRow relationAt disc
-  set-mark = cell-at 3 (lit≤ tt)
-
-  pub receiver-hi : getD b (10 * k + 4) 0 ≡ numbersOf (reachAt (file x) k .receiver) .hi
+  pub receiver-hi : getD b (5 * k) 0 ≡ numbersOf (reachAt (file x) k .receiver) .hi
   unfolding relationRow relation reachAt disc
-  receiver-hi = cell-at 4 (lit≤ tt)
+  receiver-hi = ap (λ (n : ℕ). getD b n 0) (let z : 5 * k ≡ 5 * k + 0 = omega arith in z) ∙ cell-at 0 (lit≤ tt)
 
-  pub receiver-lo : getD b (10 * k + 5) 0 ≡ numbersOf (reachAt (file x) k .receiver) .lo
+  pub receiver-lo : getD b (5 * k + 1) 0 ≡ numbersOf (reachAt (file x) k .receiver) .lo
   unfolding relationRow relation reachAt disc
-  receiver-lo = cell-at 5 (lit≤ tt)
+  receiver-lo = cell-at 1 (lit≤ tt)
 
-  pub from-at : getD b (10 * k + 6) 0 ≡ reachAt (file x) k .fromReceiver
+  pub from-at : getD b (5 * k + 2) 0 ≡ reachAt (file x) k .fromReceiver
   unfolding relationRow relation reachAt disc
-  from-at = cell-at 6 (lit≤ tt)
+  from-at = cell-at 2 (lit≤ tt)
 
-  pub to-at : getD b (10 * k + 7) 0 ≡ reachAt (file x) k .toReceiver
+  pub to-at : getD b (5 * k + 3) 0 ≡ reachAt (file x) k .toReceiver
   unfolding relationRow relation reachAt disc
-  to-at = cell-at 7 (lit≤ tt)
+  to-at = cell-at 3 (lit≤ tt)
 
-  pub index-at : getD b (10 * k + 8) 0 ≡ reachAt (file x) k .receiverIndex
+  pub index-at : getD b (5 * k + 4) 0 ≡ reachAt (file x) k .receiverIndex
   unfolding relationRow relation reachAt disc
-  index-at = cell-at 8 (lit≤ tt)
-
-  pub channels-at : getD b (10 * k + 9) 0 ≡ 65536 * reachAt (file x) k .from + reachAt (file x) k .upto
-  unfolding relationRow relation reachAt disc
-  channels-at = cell-at 9 (lit≤ tt)
+  index-at = cell-at 4 (lit≤ tt)
 
 pub record-at : (x c : List ℕ) → HoldsRecords x c → (k : ℕ) → k < file x .count
     → getD c k 0 ≡ pick (isData (file x) k) (65536 * packed (reachAt (file x) k .tape) + reachAt (file x) k .number + 1) 0

@@ -6,7 +6,7 @@ use mathlib.Core.Bool.{Bool, true, false, not, _&&_, _||_}
 use mathlib.Core.List.{List}
 use lib.Dec.{eqb, leb, ltb}
 use lib.ListN.{getD}
-use borrow.Author.Tests.{ne-eqb, lt-ltb, le-ltb, le-leb, leb-true}
+use borrow.Author.Tests.{eq-eqb, ne-eqb, lt-ltb, le-ltb, le-leb, leb-true}
 use Rattle.rules.specs.Places.{pick, every, least, ifBefore, isBefore}
 use Rattle.rules.specs.Text.{same}
 use Rattle.rules.specs.Plan.{fine, refused, №, run}
@@ -22,10 +22,10 @@ use Rattle.rules.proofs.Steps.{need-met, need-broken, every-stop}
 use Rattle.rules.proofs.Form.{data-is}
 use Rattle.rules.proofs.Cover.{covers-is, some-receiver}
 use Rattle.fields.specs.Packed.{packed, nameOf}
-use Rattle.tables.specs.Scan.{sameStart, meets, taken}
+use Rattle.tables.specs.Scan.{meets, taken}
 use Rattle.rows.proofs.Bytes.{names-equal, texts-equal}
-use Rattle.order.specs.Held.{Known, HoldsRelations, HoldsRecords}
-use Rattle.order.proofs.Known.{formed, source-wide, shot-index, instrument-small, receiver-wide, tape-long, record-small, upto-small, source-hi, source-lo, shot-mark, set-mark, receiver-hi, receiver-lo, from-at, to-at, index-at, channels-at, record-at}
+use Rattle.order.specs.Held.{Known, HoldsReaches, HoldsRecords}
+use Rattle.order.proofs.Known.{number, formed, source-wide, shot-index, instrument-small, receiver-wide, tape-long, record-small, upto-small, source-hi, source-lo, shot-mark, set-mark, receiver-hi, receiver-lo, from-at, to-at, index-at, channels-at, record-at}
 use Rattle.order.proofs.Compare.{agree, and-and, found, not-found, base-same, mark-same}
 use Rattle.order.proofs.Shots.{least-same}
 
@@ -83,64 +83,77 @@ unfolding isBefore
 there-is-one p zero e = clash e
 there-is-one p (suc k) e = omega arith
 
--- 16 and 17
-module _ (x b c : List ℕ) (w : Known 3 x) (vb : HoldsRelations x b) (vc : HoldsRecords x c) (k : ℕ) (h : k < file x .count) (e : isData (file x) k ≡ true) where
-  abbrev of-record : ℕ → Bool
-  of-record = mates (reachesOf (file x)) k
+-- one shot, record increment and instrument
+module _ (x : List ℕ) (k j : ℕ) where
+  abbrev pub alike : ℕ → Bool
+  alike c = eqb (number x k c) (number x j c)
 
-  same-shot : (j : ℕ) → j < file x .count → sameStart b k j ≡ sameShot (relationAt (file x) k) (relationAt (file x) j)
-  unfolding sameStart sameShot
-  same-shot j g =
+  module _ (c m n : ℕ) (p : m ≡ number x k c) (q : n ≡ number x j c) where
+    pub numbers-same : m ≡ n → alike c ≡ true
+    numbers-same e = eq-eqb _ _ (sym p ∙ e ∙ q)
+
+    pub numbers-differ : (m ≡ n → ⊥) → alike c ≡ false
+    numbers-differ d = ne-eqb _ _ (λ e. d (p ∙ e ∙ sym q))
+
+  pub same-shot : Known 3 x → k < file x .count → j < file x .count → every 4 alike ≡ sameShot (relationAt (file x) k) (relationAt (file x) j)
+  unfolding every sameShot
+  same-shot w h g =
       let p = relationAt (file x) k in
       let q = relationAt (file x) j in
-      rw (source-hi x b vb k h, source-hi x b vb j g, source-lo x b vb k h, source-lo x b vb j g)
-      (sym (and-and (eqb (nameOf (p .source) .hi) (nameOf (q .source) .hi)) _ _)
-      ∙ ap₂ _&&_ (names-equal (p .source) (q .source) (source-wide 3 x w k h) (source-wide 3 x w j g))
-      (rw (shot-mark x b vb k h, shot-mark x b vb j g, set-mark x b vb k h, set-mark x b vb j g)
+      and-and (alike 0 && alike 1) (alike 2) (alike 3)
+      ∙ (rw (source-hi x k, source-hi x j, source-lo x k, source-lo x j)
+      (ap₂ _&&_ (names-equal (p .source) (q .source) (source-wide 3 x w k h) (source-wide 3 x w j g))
+      (rw (shot-mark x k, shot-mark x j, set-mark x k, set-mark x j)
       (ap₂ _&&_ (mark-same (p .shot) (p .shotIndex) (q .shot) (q .shotIndex) (shot-index 3 x w k h) (shot-index 3 x w j g))
       (mark-same (p .increment) (p .instrument) (q .increment) (q .instrument) (instrument-small 3 x w k h) (instrument-small 3 x w j g))
-      ∙ and-and (eqb (p .shot) (q .shot)) (eqb (p .shotIndex) (q .shotIndex)) _)))
+      ∙ and-and (eqb (p .shot) (q .shot)) (eqb (p .shotIndex) (q .shotIndex)) _))))
+
+-- 16 and 17
+module _ (x c : List ℕ) (w : Known 3 x) (vc : HoldsRecords x c) (k : ℕ) (h : k < file x .count) (e : isData (file x) k ≡ true) where
+  abbrev of-record : ℕ → Bool
+  of-record = mates (reachesOf (file x)) k
 
   module _ (t : Bool) (y : t ≡ isBefore of-record k) where
     module _ (z : t ≡ true) where
       pub some-before : 1 ≤ k
       some-before = there-is-one of-record k (sym y ∙ z)
 
-      joined : (u : Bool) → u ≡ sameStart b k (k - 1)
+      joined : (u : Bool) → u ≡ sameShot (relationAt (file x) k) (relationAt (file x) (k - 1))
           → (together (reachesOf (file x)) k && ifBefore (λ j. not (of-record j) || sameShot (relationAt (file x) k) (relationAt (file x) j)) k) ≡ u
       unfolding together
       joined u q =
           let f : every k (λ j. not (of-record j) || isBefore of-record k) ≡ true =
           every-is k _ .1 (λ j l. rw (← y, z) (or-true (not (of-record j)))) in
           let o = some-before in
-          rw (f, before-asked of-record (λ j. sameShot (relationAt (file x) k) (relationAt (file x) j)) k (sym y ∙ z), ← (same-shot (k - 1) (omega arith)))
+          rw (f, before-asked of-record (λ j. sameShot (relationAt (file x) k) (relationAt (file x) j)) k (sym y ∙ z))
           (sym q)
 
-      pub sixteen-fine : (u : Bool) → u ≡ sameStart b k (k - 1) → u ≡ true → fine ≡ run (rule16 (file x) k)
+      pub sixteen-fine : (u : Bool) → u ≡ sameShot (relationAt (file x) k) (relationAt (file x) (k - 1)) → u ≡ true → fine ≡ run (rule16 (file x) k)
       unfolding rule16
       sixteen-fine u q s = need-met _ _ (joined u q ∙ s)
 
-      pub sixteen-changed : (u : Bool) → u ≡ sameStart b k (k - 1) → u ≡ false → refused (№ 16 3 (k + 1) 2) ≡ run (rule16 (file x) k)
+      pub sixteen-changed : (u : Bool) → u ≡ sameShot (relationAt (file x) k) (relationAt (file x) (k - 1)) → u ≡ false → refused (№ 16 3 (k + 1) 2) ≡ run (rule16 (file x) k)
       unfolding rule16 disc sps93
       sixteen-changed u q s = need-broken _ _ (joined u q ∙ s)
 
-      channels : (j : ℕ) → j < file x .count → (getD b (10 * j + 9) 0 % 65536 ≡ reachAt (file x) j .upto) × (getD b (10 * j + 9) 0 / 65536 ≡ reachAt (file x) j .from)
-      channels j g = let s = upto-small 3 x w j g in let q = channels-at x b vb j g in (omega arith, omega arith)
+      channels : (j : ℕ) → j < file x .count → (number x j 9 % 65536 ≡ reachAt (file x) j .upto) × (number x j 9 / 65536 ≡ reachAt (file x) j .from)
+      channels j g = let s = upto-small 3 x w j g in let q = channels-at x j in (omega arith, omega arith)
 
-      rising : rises (reachesOf (file x)) k ≡ ltb (getD b (10 * (k - 1) + 9) 0 % 65536) (getD b (10 * k + 9) 0 / 65536)
-      unfolding rises reachesOf
-      rising =
-          let o = some-before in
-          before-asked of-record (λ j. ltb (reachAt (file x) j .upto) (reachAt (file x) k .from)) k (sym y ∙ z)
-          ∙ sym (ap₂ ltb (channels (k - 1) (omega arith) .0) (channels k h .1))
+      module _ (m n : ℕ) (p : m ≡ number x (k - 1) 9) (q : n ≡ number x k 9) where
+        rising : rises (reachesOf (file x)) k ≡ ltb (m % 65536) (n / 65536)
+        unfolding rises reachesOf
+        rising =
+            let o = some-before in
+            before-asked of-record (λ j. ltb (reachAt (file x) j .upto) (reachAt (file x) k .from)) k (sym y ∙ z)
+            ∙ sym (ap₂ ltb (ap (λ (i : ℕ). i % 65536) p ∙ channels (k - 1) (omega arith) .0) (ap (λ (i : ℕ). i / 65536) q ∙ channels k h .1))
 
-      pub seventeen-fine : getD b (10 * (k - 1) + 9) 0 % 65536 < getD b (10 * k + 9) 0 / 65536 → fine ≡ run (rule17 (file x) k)
-      unfolding rule17
-      seventeen-fine l = need-met _ _ (rising ∙ lt-ltb _ _ l)
+        pub seventeen-fine : m % 65536 < n / 65536 → fine ≡ run (rule17 (file x) k)
+        unfolding rule17
+        seventeen-fine l = need-met _ _ (rising ∙ lt-ltb _ _ l)
 
-      pub seventeen-broken : getD b (10 * k + 9) 0 / 65536 ≤ getD b (10 * (k - 1) + 9) 0 % 65536 → refused (№ 17 3 (k + 1) 39) ≡ run (rule17 (file x) k)
-      unfolding rule17 disc sps93
-      seventeen-broken l = need-broken _ _ (rising ∙ le-ltb _ _ l)
+        pub seventeen-broken : n / 65536 ≤ m % 65536 → refused (№ 17 3 (k + 1) 39) ≡ run (rule17 (file x) k)
+        unfolding rule17 disc sps93
+        seventeen-broken l = need-broken _ _ (rising ∙ le-ltb _ _ l)
 
     module _ (z : t ≡ false) where
       alone : (together (reachesOf (file x)) k && ifBefore (λ j. not (of-record j) || sameShot (relationAt (file x) k) (relationAt (file x) j)) k)
@@ -184,7 +197,7 @@ overlap a b c d p q r s =
     yes-no (leb a c) (λ t. let l = leb-true a c t in (c, (l, s), (omega arith, q)))
     (λ t. let m : a ≤ c → ⊥ = λ l. t (le-leb a c l) in (a, (omega arith, p), (omega arith, r)))
 
-module _ (x b c : List ℕ) (w : Known 3 x) (vb : HoldsRelations x b) (vc : HoldsRecords x c) (k : ℕ) (h : k < file x .count) (e : isData (file x) k ≡ true) where
+module _ (x b c : List ℕ) (w : Known 3 x) (vb : HoldsReaches x b) (vc : HoldsRecords x c) (k : ℕ) (h : k < file x .count) (e : isData (file x) k ≡ true) where
   ordered : (j : ℕ) → j < file x .count → isData (file x) j ≡ true → reachAt (file x) j .fromReceiver ≤ reachAt (file x) j .toReceiver
   unfolding reachAt disc
   ordered j g d = formed 3 x w .rule6 j g (data-is (file x) j .0 d, refl) .1 .0

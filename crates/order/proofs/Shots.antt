@@ -23,10 +23,11 @@ use Rattle.rules.proofs.Form.{point-is}
 use Rattle.rules.proofs.Order.{Rule12, at-is, point-at-is, shots-are}
 use Rattle.rules.proofs.Meets.{shot-line}
 use Rattle.tables.specs.Scan.{isKey}
-use Rattle.order.specs.Held.{Known, HoldsPoints, HoldsRelations, HoldsRecords, place, HoldsPlaces}
-use Rattle.order.proofs.Known.{source-wide, shot-index, source-hi, source-lo, shot-mark, record-at}
+use Rattle.order.specs.Last.{stamp}
+use Rattle.order.specs.Held.{Known, HoldsPoints, HoldsRecords, place, HoldsPlaces}
+use Rattle.order.proofs.Known.{number, source-wide, shot-index, source-hi, source-lo, shot-mark, record-at}
 use Rattle.order.proofs.Compare.{agree, found, key-is}
-use Rattle.order.proofs.Last.{point-off, point-on}
+use Rattle.order.proofs.Last.{shot-off, shot-on}
 
 -- tests that agree place by place
 pub least-same : (n : ℕ) (p q : ℕ → Bool) → ((j : ℕ) → j < n → p j ≡ q j) → least n p ≡ least n q
@@ -70,14 +71,14 @@ module _ (s x : List ℕ) (k : ℕ) where
   unfolding place pick
   place-there e = rw e
 
-module _ (s a x b : List ℕ) (ws : Known 2 s) (va : HoldsPoints s a) (wx : Known 3 x) (vb : HoldsRelations x b) (k : ℕ) (h : k < file x .count) where
-  pub place-found : isData (file x) k ≡ true → (n m : ℕ) → n ≡ file s .count
-      → m ≡ least n (isKey a (getD b (10 * k) 0) (getD b (10 * k + 1) 0) (getD b (10 * k + 2) 0)) → m + 1 ≡ place s x k
+module _ (s a x : List ℕ) (ws : Known 2 s) (va : HoldsPoints s a) (wx : Known 3 x) (k : ℕ) (h : k < file x .count) where
+  pub place-found : isData (file x) k ≡ true → (n hi lo m i : ℕ) → n ≡ file s .count → hi ≡ number x k 0 → lo ≡ number x k 1 → m ≡ number x k 2
+      → i ≡ least n (isKey a hi lo m) → i + 1 ≡ place s x k
   unfolding shotLine lineOfPoint
-  place-found e n m y z =
+  place-found e n hi lo m i y p q o z =
       let v = relationAt (file x) k in
       ap (λ (i : ℕ). i + 1)
-      (z ∙ (rw (y, source-hi x b vb k h, source-lo x b vb k h, shot-mark x b vb k h)
+      (z ∙ (rw (y, p ∙ source-hi x k, q ∙ source-lo x k, o ∙ shot-mark x k)
       (least-same (file s .count) _ _
       (λ j l. key-is 2 s a ws va (v .source) (v .shot) (v .shotIndex) j (source-wide 3 x wx k h) (shot-index 3 x wx k h) l))))
       ∙ sym (place-there s x k e)
@@ -143,13 +144,13 @@ module _ (s x p : List ℕ) (v : HoldsPlaces s x p) (k : ℕ) (h : k < file x .c
     fourteen-broken l = need-broken _ _ (before-is _ k n ∙ behind ∙ lt-leb _ _ l)
 
 -- 15
-module _ (s a x p : List ℕ) (va : HoldsPoints s a) (vp : HoldsPlaces s x p)
-    (ok : fine ≡ run (upTo (file s .count) (λ k. rule11 (file s) k before rule12 (file s) k))) (k : ℕ) (h : k < file s .count) where
-  pub fifteen-other : getD a (3 * k + 2) 0 ≡ 0 → fine ≡ run (rule15 (file s) (file x) k)
+module _ (s x p : List ℕ) (vp : HoldsPlaces s x p) (ok : fine ≡ run (upTo (file s .count) (λ k. rule11 (file s) k before rule12 (file s) k)))
+    (k : ℕ) (h : k < file s .count) (b : ℕ) (o : b ≡ stamp s k) where
+  pub fifteen-other : b ≡ 0 → fine ≡ run (rule15 (file s) (file x) k)
   unfolding rule15
-  fifteen-other z = when-off _ _ (point-off s a va k h z)
+  fifteen-other z = when-off _ _ (shot-off s k b o z)
 
-  module _ (n : getD a (3 * k + 2) 0 ≡ 0 → ⊥) where
+  module _ (n : b ≡ 0 → ⊥) where
     abbrev names-k : ℕ → Bool
     names-k j = isData (file x) j && names (relationAt (file x) j) (pointAt (file s) k)
 
@@ -173,7 +174,7 @@ module _ (s a x p : List ℕ) (va : HoldsPoints s a) (vp : HoldsPlaces s x p)
             let f : q k ≡ true = subst (λ (i : ℕ). q i ≡ true) u (found (file s .count) q (omega arith)) in
             at-is _ _ _ _ .1 (point-at-is _ _ _ _ k .0 f .1))
             (λ t.
-            let u = shot-line (file s) shots v k h (point-is (file s) k .0 (point-on s a va k h n), at-is _ _ _ _ .0 t) in
+            let u = shot-line (file s) shots v k h (point-is (file s) k .0 (shot-on s k b o n), at-is _ _ _ _ .0 t) in
             eq-eqb (getD p j 0) (k + 1) (omega arith))
         go false d m = let y = place-none s x j d in ne-eqb (getD p j 0) (k + 1) (λ z. omega arith)
 
@@ -186,8 +187,8 @@ module _ (s a x p : List ℕ) (va : HoldsPoints s a) (vp : HoldsPlaces s x p)
 
       pub fifteen-fine : m < y → fine ≡ run (rule15 (file s) (file x) k)
       unfolding rule15
-      fifteen-fine l = need-met _ _ (seen ∙ lt-ltb m y l) ∙ when-on _ _ (point-on s a va k h n)
+      fifteen-fine l = need-met _ _ (seen ∙ lt-ltb m y l) ∙ when-on _ _ (shot-on s k b o n)
 
       pub fifteen-broken : y ≤ m → refused (№ 15 2 (k + 1) 1) ≡ run (rule15 (file s) (file x) k)
       unfolding rule15
-      fifteen-broken l = need-broken _ _ (seen ∙ le-ltb m y l) ∙ when-on _ _ (point-on s a va k h n)
+      fifteen-broken l = need-broken _ _ (seen ∙ le-ltb m y l) ∙ when-on _ _ (shot-on s k b o n)

@@ -25,14 +25,14 @@ use Rattle.rules.proofs.Accepted.{receivers-rise}
 use Rattle.fields.specs.Packed.{nameOf}
 use Rattle.tables.specs.Scan.{isKey, above as aboveBy, walked}
 use Rattle.rows.specs.Numbers.{mark}
-use Rattle.order.specs.Held.{Known, HoldsPoints, HoldsRelations}
+use Rattle.order.specs.Held.{Known, HoldsPoints, HoldsReaches}
 use Rattle.order.proofs.Known.{receiver-wide, receiver-index, from-small, to-small, from-at, to-at, index-at, receiver-hi, receiver-lo}
 use Rattle.order.proofs.Compare.{agree, key-is, above-is}
 use Rattle.order.proofs.Last.{point-on}
 
 -- the numbers of receivers and their index leave room for a mark
-pub receivers-below : (x b : List ℕ) → Known 3 x → HoldsRelations x b → (k : ℕ) → k < file x .count
-    → (getD b (10 * k + 6) 0 < 100000000) × ((getD b (10 * k + 7) 0 < 100000000) × (getD b (10 * k + 8) 0 < 256))
+pub receivers-below : (x b : List ℕ) → Known 3 x → HoldsReaches x b → (k : ℕ) → k < file x .count
+    → (getD b (5 * k + 2) 0 < 100000000) × ((getD b (5 * k + 3) 0 < 100000000) × (getD b (5 * k + 4) 0 < 256))
 receivers-below x b w v k h =
     (rw (from-at x b v k h) (from-small 3 x w k h), (rw (to-at x b v k h) (to-small 3 x w k h), rw (index-at x b v k h) (receiver-index 3 x w k h)))
 
@@ -124,7 +124,7 @@ module _ (a : List ℕ) (n : ℕ) (rise : Rising a n) (hi lo first : ℕ) (o : 1
 
 -- 18
 module _ (r a x b : List ℕ) (wr : Known 1 r) (va : HoldsPoints r a) (ok : fine ≡ run (upTo (file r .count) (rule10 (file r))))
-    (wx : Known 3 x) (vb : HoldsRelations x b) (k : ℕ) (h : k < file x .count) where
+    (wx : Known 3 x) (vb : HoldsReaches x b) (k : ℕ) (h : k < file x .count) where
   abbrev q : Reach
   q = reachAt (file x) k
 
@@ -166,23 +166,23 @@ module _ (r a x b : List ℕ) (wr : Known 1 r) (va : HoldsPoints r a) (ok : fine
 
   -- as the code makes the marks from its numbers
   abbrev marked : ℕ → ℕ
-  marked c = 256 * getD b (10 * k + c) 0 + (getD b (10 * k + 8) 0 + 1)
+  marked c = 256 * getD b (5 * k + c) 0 + (getD b (5 * k + 4) 0 + 1)
 
-  module _ (n m : ℕ) (y : n ≡ file r .count) (e : m ≡ walked a (getD b (10 * k + 4) 0) (getD b (10 * k + 5) 0) (marked 6) n) where
-    reached : receiversThere (file r) q ≡ ltb (marked 7) m
+  module _ (n m : ℕ) (y : n ≡ file r .count) (e : m ≡ walked a (getD b (5 * k) 0) (getD b (5 * k + 1) 0) (marked 2) n) where
+    reached : receiversThere (file r) q ≡ ltb (marked 3) m
     unfolding mark
     reached =
         let f = from-at x b vb k h in
         let g = to-at x b vb k h in
         let i = index-at x b vb k h in
-        let u : marked 6 ≡ mark (q .fromReceiver) (q .receiverIndex) = omega arith in
-        let v : marked 7 ≡ mark (q .toReceiver) (q .receiverIndex) = omega arith in
+        let u : marked 2 ≡ mark (q .fromReceiver) (q .receiverIndex) = omega arith in
+        let v : marked 3 ≡ mark (q .toReceiver) (q .receiverIndex) = omega arith in
         all-there ∙ sym (ap₂ ltb v (e ∙ (rw (receiver-hi x b vb k h, receiver-lo x b vb k h, u, y))))
 
-    pub eighteen-fine : marked 7 < m → fine ≡ run (rule18 (file r) (file x) k)
+    pub eighteen-fine : marked 3 < m → fine ≡ run (rule18 (file r) (file x) k)
     unfolding rule18
-    eighteen-fine l = need-met _ _ (reached ∙ lt-ltb (marked 7) m l)
+    eighteen-fine l = need-met _ _ (reached ∙ lt-ltb (marked 3) m l)
 
-    pub eighteen-broken : m ≤ marked 7 → refused (№ 18 3 (k + 1) 64) ≡ run (rule18 (file r) (file x) k)
+    pub eighteen-broken : m ≤ marked 3 → refused (№ 18 3 (k + 1) 64) ≡ run (rule18 (file r) (file x) k)
     unfolding rule18 disc sps93
-    eighteen-broken l = need-broken _ _ (reached ∙ le-ltb (marked 7) m l)
+    eighteen-broken l = need-broken _ _ (reached ∙ le-ltb (marked 3) m l)

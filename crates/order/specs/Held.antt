@@ -1,9 +1,9 @@
 -- What the rules over the set know of the files, and of the arrays that hold their numbers.
 --   Known i f               = file i is well formed, and so has few lines
 --   HoldsPoints f a         = a holds the numbers of the point lines of a file
---   HoldsRelations x b      = b those of the relation lines, HoldsRecords x c = c their tapes and records
+--   HoldsReaches x b        = b those of the receivers of the relation lines, HoldsRecords x c = c their tapes and records
 --   KnownPoints i f a       = file i is known, and a holds the numbers of its point lines
---   KnownReceivers r a      = so is R, and 10 is met; KnownShots s a = so is S, and 11 and 12 are met
+--   KnownReceivers r a      = so is R, and 10 is met; KnownShots s = S is known, and 11 and 12 are met
 --   KnownRelations x b c    = X is known, and b and c hold its numbers
 --   RelationLine x k        = line k of X is a relation line
 --   place s x k             = the line of S, counted from 1, that holds the shot of relation line k; one more than the last where
@@ -23,7 +23,7 @@ use Rattle.rules.specs.Order.{shotLine, rule10}
 use Rattle.tables.specs.Filled.{Holds}
 use Rattle.rows.specs.Numbers.{numberOf}
 use Rattle.order.specs.Steps.{shotFits}
-use Rattle.rows.specs.declared.Rows.the-variants.{Points, Relations, Records}
+use Rattle.rows.specs.declared.Rows.the-variants.{Points, Reaches, Records}
 
 abbrev pub Known : ℕ → List ℕ → Type 0
 Known i f = (file f .count < 10000) × (fine ≡ run (form i (file f)))
@@ -31,8 +31,8 @@ Known i f = (file f .count < 10000) × (fine ≡ run (form i (file f)))
 abbrev pub HoldsPoints : List ℕ → List ℕ → Type 0
 HoldsPoints f a = Holds a (numberOf Points (file f)) (3 * file f .count)
 
-abbrev pub HoldsRelations : List ℕ → List ℕ → Type 0
-HoldsRelations x b = Holds b (numberOf Relations (file x)) (10 * file x .count)
+abbrev pub HoldsReaches : List ℕ → List ℕ → Type 0
+HoldsReaches x b = Holds b (numberOf Reaches (file x)) (5 * file x .count)
 
 abbrev pub HoldsRecords : List ℕ → List ℕ → Type 0
 HoldsRecords x c = Holds c (numberOf Records (file x)) (file x .count)
@@ -43,11 +43,11 @@ KnownPoints i f a = Known i f × HoldsPoints f a
 abbrev pub KnownReceivers : List ℕ → List ℕ → Type 0
 KnownReceivers r a = KnownPoints 1 r a × (fine ≡ run (upTo (file r .count) (rule10 (file r))))
 
-abbrev pub KnownShots : List ℕ → List ℕ → Type 0
-KnownShots s a = KnownPoints 2 s a × (fine ≡ run (upTo (file s .count) (shotFits (file s))))
+abbrev pub KnownShots : List ℕ → Type 0
+KnownShots s = Known 2 s × (fine ≡ run (upTo (file s .count) (shotFits (file s))))
 
 abbrev pub KnownRelations : List ℕ → List ℕ → List ℕ → Type 0
-KnownRelations x b c = Known 3 x × (HoldsRelations x b × HoldsRecords x c)
+KnownRelations x b c = Known 3 x × (HoldsReaches x b × HoldsRecords x c)
 
 abbrev pub RelationLine : List ℕ → ℕ → Type 0
 RelationLine x k = (k < file x .count) × (isData (file x) k ≡ true)

@@ -60,7 +60,7 @@ pub fn receivers_fit(r: &[u8], a: &[u64]) -> Verdict
 }
 
 // Day and time of a shot as one number, never 0; 0 for any other line.
-fn stamp(s: &[u8], k: usize) -> u64
+pub fn stamp(s: &[u8], k: usize) -> u64
     requires { ⌜ k < file (now s) .count ⌝ }
     ensures value { λ t. ⌜ t ≡ stampOf (now (s .entry)) k ⌝ }
 {

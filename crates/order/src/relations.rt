@@ -1,41 +1,47 @@
 // 13, 14, 16, 17, 18 and 19 of a relation line, and 15 of a shot. The arrays hold numbers: a those of the point lines of R or of S,
-// b those of the relation lines, c their tapes and records, p the places of their shots.
+// b those of the relation lines' receivers, c their tapes and records, p the places of their shots. What is compared with the line
+// just before alone is read from the text.
 ghost use mathlib.Core.Path.{_≡_};
 ghost use Prim.Native.Nat.{_+_, _≤_, _<_};
 ghost use lib.ListN.{length};
 ghost use Rattle.rules.specs.Places.{isBefore};
 ghost use Rattle.rules.specs.Plan.{run, upTo, _before_};
 ghost use Rattle.rules.specs.Disc.{file};
+ghost use Rattle.rules.specs.Relations.{relationAt};
 ghost use Rattle.rules.specs.Reaches.{reachesOf, mates};
-ghost use Rattle.rules.specs.Order.{rule13 as rule13Of, rule14 as rule14Of, rule15 as rule15Of, rule16 as rule16Of, rule17 as rule17Of, rule18 as rule18Of, rule19 as rule19Of};
+ghost use Rattle.rules.specs.Order.{sameShot, rule13 as rule13Of, rule14 as rule14Of, rule15 as rule15Of, rule16 as rule16Of, rule17 as rule17Of, rule18 as rule18Of, rule19 as rule19Of};
 ghost use Rattle.rules.specs.Check.{relationFits};
 ghost use Rattle.lines.specs.Paper.{paper};
 ghost use Rattle.tables.specs.Filled.{filled};
 ghost use Rattle.order.specs.Steps.{reachFits, lineFits};
-ghost use Rattle.order.specs.Held.{Known, HoldsRelations, HoldsRecords, KnownPoints, KnownReceivers, KnownShots, KnownRelations, RelationLine, place as placeOf, HoldsPlaces};
+ghost use Rattle.order.specs.Held.{Known, HoldsReaches, HoldsRecords, KnownPoints, KnownReceivers, KnownShots, KnownRelations, RelationLine, place as placeOf, HoldsPlaces};
+use crate::points;
 use lines::Verdict;
 
 // The line of S, counted from 1, that holds the shot of line k; one more than the last where none does; 0 for a header line.
-fn place(s: &[u8], a: &[u64], x: &[u8], b: &[u64], c: &[u64], k: usize) -> u64
-    requires { ⌜ KnownPoints 2 (now s) (now a) × (KnownRelations (now x) (now b) (now c) × (k < file (now x) .count)) ⌝ }
+fn place(s: &[u8], a: &[u64], x: &[u8], c: &[u64], k: usize) -> u64
+    requires { ⌜ KnownPoints 2 (now s) (now a) × ((Known 3 (now x) × HoldsRecords (now x) (now c)) × (k < file (now x) .count)) ⌝ }
     ensures value { λ n. ⌜ n ≡ placeOf (now (s .entry)) (now (x .entry)) k ⌝ }
 {
     if c[k] == 0 {
         return 0;
     }
     let n = lines::line_count(s);
-    tables::find_key(a, n, b[10 * k], b[10 * k + 1], b[10 * k + 2]) as u64 + 1
+    let hi = rows::relation_number(x, k, 0);
+    let lo = rows::relation_number(x, k, 1);
+    let mark = rows::relation_number(x, k, 2);
+    tables::find_key(a, n, hi, lo, mark) as u64 + 1
 }
 
 // Writes the places of the shots of all lines into the first places of p.
-pub fn write_places(s: &[u8], a: &[u64], x: &[u8], b: &[u64], c: &[u64], p: &mut [u64])
-    requires { ⌜ KnownPoints 2 (now s) (now a) × (KnownRelations (now x) (now b) (now c) × (file (now x) .count ≤ length (now p))) ⌝ }
+pub fn write_places(s: &[u8], a: &[u64], x: &[u8], c: &[u64], p: &mut [u64])
+    requires { ⌜ KnownPoints 2 (now s) (now a) × ((Known 3 (now x) × HoldsRecords (now x) (now c)) × (file (now x) .count ≤ length (now p))) ⌝ }
     ensures written { λ _. ⌜ now (p .exit) ≡ filled (placeOf (now (s .entry)) (now (x .entry))) (file (now (x .entry)) .count) (now (p .entry)) ⌝ }
 {
     let n = lines::line_count(x);
     let mut k = 0;
     while k < n {
-        p[k] = place(s, a, x, b, c, k);
+        p[k] = place(s, a, x, c, k);
         k += 1;
     }
 }
@@ -76,13 +82,28 @@ fn goes_on(x: &[u8], c: &[u64], k: usize) -> bool
     c[k - 1] == c[k]
 }
 
+// Relation lines k and j are of one shot, record increment and instrument: their first four numbers are the same.
+fn same_shot(x: &[u8], k: usize, j: usize) -> bool
+    requires { ⌜ Known 3 (now x) × ((k < file (now x) .count) × (j < file (now x) .count)) ⌝ }
+    ensures value { λ t. ⌜ t ≡ sameShot (relationAt (file (now (x .entry))) k) (relationAt (file (now (x .entry))) j) ⌝ }
+{
+    let mut i = 0;
+    while i < 4 {
+        if rows::relation_number(x, k, i) != rows::relation_number(x, j, i) {
+            return false;
+        }
+        i += 1;
+    }
+    true
+}
+
 // 16 of relation line k.
-fn rule16(x: &[u8], b: &[u64], c: &[u64], k: usize) -> Verdict
-    requires { ⌜ KnownRelations (now x) (now b) (now c) × RelationLine (now x) k ⌝ }
+fn rule16(x: &[u8], c: &[u64], k: usize) -> Verdict
+    requires { ⌜ (Known 3 (now x) × HoldsRecords (now x) (now c)) × RelationLine (now x) k ⌝ }
     ensures verdict { λ v. ⌜ paper v ≡ run (rule16Of (file (now (x .entry))) k) ⌝ }
 {
     if goes_on(x, c, k) {
-        if tables::same_start(b, k, k - 1) {
+        if same_shot(x, k, k - 1) {
             return Verdict::Fine;
         }
         return Verdict::Refused(16, 3, k as u32 + 1, 2);
@@ -94,14 +115,14 @@ fn rule16(x: &[u8], b: &[u64], c: &[u64], k: usize) -> Verdict
 }
 
 // 17 of relation line k.
-fn rule17(x: &[u8], b: &[u64], c: &[u64], k: usize) -> Verdict
-    requires { ⌜ KnownRelations (now x) (now b) (now c) × RelationLine (now x) k ⌝ }
+fn rule17(x: &[u8], c: &[u64], k: usize) -> Verdict
+    requires { ⌜ (Known 3 (now x) × HoldsRecords (now x) (now c)) × RelationLine (now x) k ⌝ }
     ensures verdict { λ v. ⌜ paper v ≡ run (rule17Of (file (now (x .entry))) k) ⌝ }
 {
     if !goes_on(x, c, k) {
         return Verdict::Fine;
     }
-    if b[10 * (k - 1) + 9] % 65536 < b[10 * k + 9] / 65536 {
+    if rows::relation_number(x, k - 1, 9) % 65536 < rows::relation_number(x, k, 9) / 65536 {
         return Verdict::Fine;
     }
     Verdict::Refused(17, 3, k as u32 + 1, 39)
@@ -109,14 +130,14 @@ fn rule17(x: &[u8], b: &[u64], c: &[u64], k: usize) -> Verdict
 
 // 18 of relation line k: one walk over R, whose receivers are in order.
 fn rule18(r: &[u8], a: &[u64], x: &[u8], b: &[u64], k: usize) -> Verdict
-    requires { ⌜ KnownReceivers (now r) (now a) × ((Known 3 (now x) × HoldsRelations (now x) (now b)) × (k < file (now x) .count)) ⌝ }
+    requires { ⌜ KnownReceivers (now r) (now a) × ((Known 3 (now x) × HoldsReaches (now x) (now b)) × (k < file (now x) .count)) ⌝ }
     ensures verdict { λ v. ⌜ paper v ≡ run (rule18Of (file (now (r .entry))) (file (now (x .entry))) k) ⌝ }
 {
     let n = lines::line_count(r);
-    let index = b[10 * k + 8] + 1;
-    let first = 256 * b[10 * k + 6] + index;
-    let last = 256 * b[10 * k + 7] + index;
-    if last < tables::walk(a, n, b[10 * k + 4], b[10 * k + 5], first) {
+    let index = b[5 * k + 4] + 1;
+    let first = 256 * b[5 * k + 2] + index;
+    let last = 256 * b[5 * k + 3] + index;
+    if last < tables::walk(a, n, b[5 * k], b[5 * k + 1], first) {
         return Verdict::Fine;
     }
     Verdict::Refused(18, 3, k as u32 + 1, 64)
@@ -138,7 +159,7 @@ fn reach_fits(r: &[u8], a: &[u64], x: &[u8], b: &[u64], c: &[u64], k: usize) -> 
     requires { ⌜ KnownReceivers (now r) (now a) × (KnownRelations (now x) (now b) (now c) × RelationLine (now x) k) ⌝ }
     ensures verdict { λ v. ⌜ paper v ≡ run (reachFits (file (now (r .entry))) (file (now (x .entry))) k) ⌝ }
 {
-    let v = rule17(x, b, c, k);
+    let v = rule17(x, c, k);
     if let Verdict::Refused(_, _, _, _) = v {
         return v;
     }
@@ -171,7 +192,7 @@ fn line_fits(
     if let Verdict::Refused(_, _, _, _) = u {
         return u;
     }
-    let w = rule16(x, b, c, k);
+    let w = rule16(x, c, k);
     if let Verdict::Refused(_, _, _, _) = w {
         return w;
     }
@@ -224,11 +245,11 @@ pub fn relations_fit(
 }
 
 // 15 of line k of S.
-fn rule15(s: &[u8], a: &[u64], x: &[u8], p: &[u64], k: usize) -> Verdict
-    requires { ⌜ KnownShots (now s) (now a) × (HoldsPlaces (now s) (now x) (now p) × (k < file (now s) .count)) ⌝ }
+fn rule15(s: &[u8], x: &[u8], p: &[u64], k: usize) -> Verdict
+    requires { ⌜ KnownShots (now s) × (HoldsPlaces (now s) (now x) (now p) × (k < file (now s) .count)) ⌝ }
     ensures verdict { λ v. ⌜ paper v ≡ run (rule15Of (file (now (s .entry))) (file (now (x .entry))) k) ⌝ }
 {
-    if a[3 * k + 2] == 0 {
+    if points::stamp(s, k) == 0 {
         return Verdict::Fine;
     }
     let n = lines::line_count(x);
@@ -239,14 +260,14 @@ fn rule15(s: &[u8], a: &[u64], x: &[u8], p: &[u64], k: usize) -> Verdict
 }
 
 // 15 over S.
-pub fn shots_named(s: &[u8], a: &[u64], x: &[u8], p: &[u64]) -> Verdict
-    requires { ⌜ KnownShots (now s) (now a) × HoldsPlaces (now s) (now x) (now p) ⌝ }
+pub fn shots_named(s: &[u8], x: &[u8], p: &[u64]) -> Verdict
+    requires { ⌜ KnownShots (now s) × HoldsPlaces (now s) (now x) (now p) ⌝ }
     ensures verdict { λ v. ⌜ paper v ≡ run (upTo (file (now (s .entry)) .count) (rule15Of (file (now (s .entry))) (file (now (x .entry))))) ⌝ }
 {
     let n = lines::line_count(s);
     let mut k = 0;
     while k < n {
-        let v = rule15(s, a, x, p, k);
+        let v = rule15(s, x, p, k);
         if let Verdict::Refused(_, _, _, _) = v {
             return v;
         }

@@ -17,7 +17,7 @@ use Rattle.rules.proofs.Columns.{cols-length}
 use Rattle.rules.proofs.Sizes.{whole-small}
 use Rattle.rows.specs.Numbers.{Small, pointRow, relationRow, sizeOf}
 use Rattle.rows.specs.declared.Rows.{Rows}
-use Rattle.rows.specs.declared.Rows.the-variants.{Points, Relations, Records}
+use Rattle.rows.specs.declared.Rows.the-variants.{Points, Reaches, Records}
 use Rattle.rows.proofs.Bytes.{cols-long, packed-below}
 
 module _ (l : List ℕ) where
@@ -58,9 +58,9 @@ module _ (t : Rows) (f : Sheet) (i : ℕ) where
   unfolding sizeOf
   point-line e h = let g : i < 3 * f .count = rw e at h in omega arith
 
-  pub relation-line : t ≡ Relations → i < sizeOf t f → i / 10 < f .count
+  pub reach-line : t ≡ Reaches → i < sizeOf t f → i / 5 < f .count
   unfolding sizeOf
-  relation-line e h = let g : i < 10 * f .count = rw e at h in omega arith
+  reach-line e h = let g : i < 5 * f .count = rw e at h in omega arith
 
   pub record-line : t ≡ Records → i < sizeOf t f → i < f .count
   unfolding sizeOf

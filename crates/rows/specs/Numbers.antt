@@ -6,7 +6,8 @@
 --   pointRow l      = the numbers of a point line: its name's two, and its mark
 --   relationRow l   = those of a relation line: source name, shot, increment and instrument, receiver name, receivers, index, channels
 --   recordOf l      = its tape and record as one number, never 0; 0 for a header line
---   numberOf t f i  = number i of a file, and sizeOf t f = how many there are
+--   numberOf t f i  = number i of a file: of its point lines, of its relation lines those of their receivers, or of its records
+--   sizeOf t f      = how many there are
 use Prim.Native.Nat.{ℕ, _+_, _*_, _/_, _%_, _<_}
 use mathlib.Core.Bool.{not, _&&_}
 use mathlib.Core.List.{List, [], _∷_}
@@ -19,7 +20,7 @@ use Rattle.rules.specs.Points.{point}
 use Rattle.rules.specs.Relations.{reach, relation}
 use Rattle.fields.specs.Packed.{packed, nameOf}
 use Rattle.rows.specs.declared.Rows.{Rows}
-use Rattle.rows.specs.declared.Rows.the-variants.{Points, Relations, Records}
+use Rattle.rows.specs.declared.Rows.the-variants.{Points, Reaches, Records}
 
 abbrev pub Small : List ℕ → Type 0
 Small l = (i : ℕ) → getD l i 0 < 256
@@ -57,10 +58,10 @@ recordOf l = let q = reach sps93 l in pick (not (isHeader l)) (65536 * packed (q
 
 unfoldable pub numberOf : Rows → Sheet → ℕ → ℕ
 numberOf Points f i = getD (pointRow (f .row (i / 3))) (i % 3) 0
-numberOf Relations f i = getD (relationRow (f .row (i / 10))) (i % 10) 0
+numberOf Reaches f i = getD (relationRow (f .row (i / 5))) (4 + i % 5) 0
 numberOf Records f i = recordOf (f .row i)
 
 unfoldable pub sizeOf : Rows → Sheet → ℕ
 sizeOf Points f = 3 * f .count
-sizeOf Relations f = 10 * f .count
+sizeOf Reaches f = 5 * f .count
 sizeOf Records f = f .count

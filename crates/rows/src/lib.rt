@@ -1,5 +1,5 @@
-// The numbers of point and relation lines, each read once from the text and written into an array, so that the rules over the set
-// compare numbers and no text.
+// The numbers of point and relation lines. Those that the rules over the set compare with all other lines are read once from the text
+// and written into an array; the others are read where they are asked for.
 ghost use mathlib.Core.Path.{_≡_};
 ghost use Prim.Native.Nat.{_≤_, _<_};
 ghost use lib.ListN.{length, getD};
@@ -10,10 +10,11 @@ use fields::names;
 use records::fits;
 use records::relation;
 
-// What of each line is written: three numbers of a point line, ten of a relation line, or its tape and record as one.
+// What of each line is written: three numbers of a point line, the five of a relation line that tell its receivers, or its tape and
+// record as one.
 pub enum Rows {
     Points,
-    Relations,
+    Reaches,
     Records,
 }
 
@@ -81,6 +82,14 @@ fn relation_part(l: &[u8; 80], c: usize) -> u64
     }
 }
 
+// Number c of relation line k.
+pub fn relation_number(x: &[u8], k: usize, c: usize) -> u64
+    requires { ⌜ (k < file (now x) .count) × (c < 10) ⌝ }
+    ensures value { λ n. ⌜ n ≡ getD (relationRow (file (now (x .entry)) .row k)) c 0 ⌝ }
+{
+    relation_part(&lines::line_of(x, k), c)
+}
+
 // Tape and record of a relation line as one number, never 0; 0 for a header line.
 fn record(l: &[u8; 80]) -> u64
     requires { ⌜ Small (now l) ⌝ }
@@ -101,7 +110,7 @@ fn size_of(t: Rows, f: &[u8]) -> usize
     let n = lines::line_count(f);
     match t {
         Rows::Points => 3 * n,
-        Rows::Relations => 10 * n,
+        Rows::Reaches => 5 * n,
         Rows::Records => n,
     }
 }
@@ -113,7 +122,7 @@ fn number_of(t: Rows, f: &[u8], i: usize) -> u64
 {
     match t {
         Rows::Points => point_part(&lines::line_of(f, i / 3), i % 3),
-        Rows::Relations => relation_part(&lines::line_of(f, i / 10), i % 10),
+        Rows::Reaches => relation_number(f, i / 5, 4 + i % 5),
         Rows::Records => record(&lines::line_of(f, i)),
     }
 }

@@ -15,10 +15,10 @@ use Rattle.rules.proofs.Breach.{run-met}
 use Rattle.rules.proofs.Form.{form-is}
 use Rattle.rules.proofs.Steps.{before-met, before-broken}
 use Rattle.tables.specs.Filled.{filled}
-use Rattle.tables.proofs.Laws.{filled-holds}
+use Rattle.tables.proofs.Laws.{same-length, filled-holds}
 use Rattle.rows.specs.Numbers.{numberOf, sizeOf}
-use Rattle.rows.specs.declared.Rows.the-variants.{Points, Relations, Records}
-use Rattle.order.specs.Held.{Known, HoldsPoints, HoldsRelations, HoldsRecords, place, HoldsPlaces}
+use Rattle.rows.specs.declared.Rows.the-variants.{Points, Reaches, Records}
+use Rattle.order.specs.Held.{Known, HoldsPoints, HoldsReaches, HoldsRecords, place, HoldsPlaces}
 use Rattle.sets.specs.Paper.{across, counts}
 
 -- refused, and accepted
@@ -59,13 +59,18 @@ module _ (f a d : List ℕ) (h : file f .count < 10000) where
   unfolding sizeOf
   points-held n e = filled-holds _ (3 * file f .count) a d (omega arith) e
 
-  pub relations-room : length d ≡ 99990 → sizeOf Relations (file f) ≤ length d
+  pub points-again : (g : List ℕ) → file g .count < 10000 → length d ≡ 29997 → a ≡ filled (numberOf Points (file f)) (sizeOf Points (file f)) d
+      → sizeOf Points (file g) ≤ length a
   unfolding sizeOf
-  relations-room n = omega arith
+  points-again g l n e = let m = same-length (numberOf Points (file f)) (3 * file f .count) a d e in omega arith
 
-  pub relations-held : length d ≡ 99990 → a ≡ filled (numberOf Relations (file f)) (sizeOf Relations (file f)) d → HoldsRelations f a
+  pub reaches-room : length d ≡ 49995 → sizeOf Reaches (file f) ≤ length d
   unfolding sizeOf
-  relations-held n e = filled-holds _ (10 * file f .count) a d (omega arith) e
+  reaches-room n = omega arith
+
+  pub reaches-held : length d ≡ 49995 → a ≡ filled (numberOf Reaches (file f)) (sizeOf Reaches (file f)) d → HoldsReaches f a
+  unfolding sizeOf
+  reaches-held n e = filled-holds _ (5 * file f .count) a d (omega arith) e
 
   pub records-room : length d ≡ 9999 → sizeOf Records (file f) ≤ length d
   unfolding sizeOf

@@ -7,7 +7,7 @@ ghost use Rattle.rules.specs.Lines.{isData};
 ghost use Rattle.rules.specs.Relations.{reachAt};
 ghost use Rattle.rules.specs.Cover.{traces as tracesOf};
 ghost use Rattle.rules.specs.Check.{points as pointsOf, relations as relationsOf, allTraces};
-ghost use Rattle.order.specs.Held.{HoldsPoints, HoldsRecords, KnownRelations};
+ghost use Rattle.order.specs.Held.{Known, HoldsPoints, HoldsRecords};
 
 // How many receivers or shots a file has.
 pub fn points(f: &[u8], a: &[u64]) -> u64
@@ -48,27 +48,28 @@ pub fn relations(x: &[u8], c: &[u64]) -> u64
 }
 
 // The traces of line k, where it is a relation line.
-fn line_traces(x: &[u8], b: &[u64], c: &[u64], k: usize) -> u64
-    requires { ⌜ KnownRelations (now x) (now b) (now c) × (k < file (now x) .count) ⌝ }
+fn line_traces(x: &[u8], c: &[u64], k: usize) -> u64
+    requires { ⌜ (Known 3 (now x) × HoldsRecords (now x) (now c)) × (k < file (now x) .count) ⌝ }
     ensures value { λ n. ⌜ n ≡ pick (isData (file (now (x .entry))) k) (tracesOf (reachAt (file (now (x .entry))) k)) 0 ⌝ }
     ensures small { λ n. ⌜ n < 10001 ⌝ }
 {
     if c[k] == 0 {
         return 0;
     }
-    b[10 * k + 9] % 65536 + 1 - b[10 * k + 9] / 65536
+    let n = rows::relation_number(x, k, 9);
+    n % 65536 + 1 - n / 65536
 }
 
 // The traces of all relation lines.
-pub fn traces(x: &[u8], b: &[u64], c: &[u64]) -> u64
-    requires { ⌜ KnownRelations (now x) (now b) (now c) ⌝ }
+pub fn traces(x: &[u8], c: &[u64]) -> u64
+    requires { ⌜ Known 3 (now x) × HoldsRecords (now x) (now c) ⌝ }
     ensures value { λ m. ⌜ m ≡ allTraces (file (now (x .entry))) ⌝ }
 {
     let n = lines::line_count(x);
     let mut m: u64 = 0;
     let mut k = 0;
     while k < n {
-        m += line_traces(x, b, c, k);
+        m += line_traces(x, c, k);
         k += 1;
     }
     m

@@ -1,12 +1,13 @@
 // The set check: the form of R, S and X, the header rules, then the rules across the files, and the counts of an accepted set.
-// The numbers of the lines stand in arrays of this call, 1.44 MB of its stack; nothing is allocated.
+// The numbers of the lines stand in arrays of this call, 0.8 MB of its stack; nothing is allocated.
 ghost use mathlib.Core.Path.{_≡_};
 ghost use lib.ListN.{length};
-ghost use Rattle.rules.specs.Plan.{run, _before_};
+ghost use Rattle.rules.specs.Plan.{run, upTo, _before_};
 ghost use Rattle.rules.specs.Disc.{file};
 ghost use Rattle.rules.specs.Form.{form as formOf};
-ghost use Rattle.rules.specs.Check.{answer as answerOf, check as checkOf};
+ghost use Rattle.rules.specs.Check.{answer as answerOf, check as checkOf, points as pointsOf};
 ghost use Rattle.lines.specs.Paper.{paper as verdictOf};
+ghost use Rattle.order.specs.Steps.{shotFits};
 ghost use Rattle.order.specs.Held.{Known, KnownPoints, KnownRelations, HoldsPlaces};
 ghost use Rattle.sets.specs.Paper.{paper, across as acrossOf, counts as countsOf};
 use lines::Verdict;
@@ -38,25 +39,24 @@ fn forms(r: &[u8], s: &[u8], x: &[u8]) -> Verdict
     form::form(x, 3)
 }
 
-// The rules across the files, in their order: a and d hold the numbers of R and S, b, c and p those of X.
+// The rules across the files, in their order: a holds the numbers of R, b, c and p those of X, and u is the verdict of 11 and 12.
 fn verdict_across(
     r: &[u8],
     a: &[u64],
     s: &[u8],
-    d: &[u64],
+    u: Verdict,
     x: &[u8],
     b: &[u64],
     c: &[u64],
     p: &[u64],
 ) -> Verdict
-    requires { ⌜ (KnownPoints 1 (now r) (now a) × KnownPoints 2 (now s) (now d)) × (KnownRelations (now x) (now b) (now c) × HoldsPlaces (now s) (now x) (now p)) ⌝ }
+    requires { ⌜ (KnownPoints 1 (now r) (now a) × (Known 2 (now s) × (verdictOf u ≡ run (upTo (file (now s) .count) (shotFits (file (now s))))))) × (KnownRelations (now x) (now b) (now c) × HoldsPlaces (now s) (now x) (now p)) ⌝ }
     ensures verdict { λ v. ⌜ verdictOf v ≡ run (acrossOf (now (r .entry)) (now (s .entry)) (now (x .entry))) ⌝ }
 {
     let v = points::receivers_fit(r, a);
     if let Verdict::Refused(_, _, _, _) = v {
         return v;
     }
-    let u = points::shots_fit(s, d);
     if let Verdict::Refused(_, _, _, _) = u {
         return u;
     }
@@ -64,54 +64,55 @@ fn verdict_across(
     if let Verdict::Refused(_, _, _, _) = w {
         return w;
     }
-    relations::shots_named(s, d, x, p)
+    relations::shots_named(s, x, p)
 }
 
-// The answer across the files.
+// The answer across the files, with so many shots.
 fn answer_across(
     r: &[u8],
     a: &[u64],
     s: &[u8],
-    d: &[u64],
+    u: Verdict,
+    shots: u64,
     x: &[u8],
     b: &[u64],
     c: &[u64],
     p: &[u64],
 ) -> Answer
-    requires { ⌜ (KnownPoints 1 (now r) (now a) × KnownPoints 2 (now s) (now d)) × (KnownRelations (now x) (now b) (now c) × HoldsPlaces (now s) (now x) (now p)) ⌝ }
+    requires { ⌜ ((KnownPoints 1 (now r) (now a) × (Known 2 (now s) × (verdictOf u ≡ run (upTo (file (now s) .count) (shotFits (file (now s))))))) × (KnownRelations (now x) (now b) (now c) × HoldsPlaces (now s) (now x) (now p))) × (shots ≡ pointsOf (file (now s))) ⌝ }
     ensures answer { λ v. ⌜ paper v ≡ answerOf (run (acrossOf (now (r .entry)) (now (s .entry)) (now (x .entry)))) (countsOf (now (r .entry)) (now (s .entry)) (now (x .entry))) ⌝ }
 {
-    let v = verdict_across(r, a, s, d, x, b, c, p);
+    let v = verdict_across(r, a, s, u, x, b, c, p);
     if let Verdict::Refused(n, i, k, e) = v {
         return Answer::Refused(n, i, k, e);
     }
     let receivers = counts::points(r, a);
-    let shots = counts::points(s, d);
     let lines = counts::relations(x, c);
-    let traces = counts::traces(x, b, c);
+    let traces = counts::traces(x, c);
     Answer::Accepted(receivers, shots, lines, traces)
 }
 
-// The same, from the text: each number is read once into its place.
+// The same, from the text: a takes the numbers of S, then those of R.
 fn read(
     r: &[u8],
     s: &[u8],
     x: &[u8],
     a: &mut [u64],
-    d: &mut [u64],
     b: &mut [u64],
     c: &mut [u64],
     p: &mut [u64],
 ) -> Answer
-    requires { ⌜ (Known 1 (now r) × (Known 2 (now s) × Known 3 (now x))) × ((length (now a) ≡ 29997) × ((length (now d) ≡ 29997) × ((length (now b) ≡ 99990) × ((length (now c) ≡ 9999) × (length (now p) ≡ 9999))))) ⌝ }
+    requires { ⌜ (Known 1 (now r) × (Known 2 (now s) × Known 3 (now x))) × ((length (now a) ≡ 29997) × ((length (now b) ≡ 49995) × ((length (now c) ≡ 9999) × (length (now p) ≡ 9999)))) ⌝ }
     ensures answer { λ v. ⌜ paper v ≡ answerOf (run (acrossOf (now (r .entry)) (now (s .entry)) (now (x .entry)))) (countsOf (now (r .entry)) (now (s .entry)) (now (x .entry))) ⌝ }
 {
-    rows::write(Rows::Points, r, a);
-    rows::write(Rows::Points, s, d);
-    rows::write(Rows::Relations, x, b);
+    rows::write(Rows::Points, s, a);
     rows::write(Rows::Records, x, c);
-    relations::write_places(s, d, x, b, c, p);
-    answer_across(r, a, s, d, x, b, c, p)
+    relations::write_places(s, a, x, c, p);
+    let u = points::shots_fit(s, a);
+    let shots = counts::points(s, a);
+    rows::write(Rows::Points, r, a);
+    rows::write(Rows::Reaches, x, b);
+    answer_across(r, a, s, u, shots, x, b, c, p)
 }
 
 // The same, with its arrays.
@@ -120,11 +121,10 @@ fn across(r: &[u8], s: &[u8], x: &[u8]) -> Answer
     ensures answer { λ v. ⌜ paper v ≡ answerOf (run (acrossOf (now (r .entry)) (now (s .entry)) (now (x .entry)))) (countsOf (now (r .entry)) (now (s .entry)) (now (x .entry))) ⌝ }
 {
     let mut a = [0u64; 29997];
-    let mut d = [0u64; 29997];
-    let mut b = [0u64; 99990];
+    let mut b = [0u64; 49995];
     let mut c = [0u64; 9999];
     let mut p = [0u64; 9999];
-    read(r, s, x, &mut a, &mut d, &mut b, &mut c, &mut p)
+    read(r, s, x, &mut a, &mut b, &mut c, &mut p)
 }
 
 // Checks a set of three files of any length and content.

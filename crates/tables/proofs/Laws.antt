@@ -11,7 +11,7 @@ use lib.Seq.{getD-set-same, getD-set-other}
 use borrow.Author.Tests.{eq-eqb, ne-eqb, lt-ltb, le-ltb, le-leb, lt-leb}
 use Rattle.rules.specs.Places.{pick, least}
 use Rattle.rules.proofs.Tests.{more}
-use Rattle.tables.specs.Scan.{isKey, above, walked, sameStart, meets, taken}
+use Rattle.tables.specs.Scan.{isKey, above, walked, meets, taken}
 use Rattle.tables.specs.Filled.{filled, Holds}
 
 -- a row of that name and mark
@@ -72,48 +72,28 @@ module _ (a : List ℕ) (hi lo mark : ℕ) where
     unfolding walked pick
     walk-stays y = rw (add-one n) (rw (← e, ← q, y))
 
--- the first four numbers
-module _ (b : List ℕ) (k j : ℕ) where
-  pub other-first : (getD b (10 * k) 0 ≡ getD b (10 * j) 0 → ⊥) → false ≡ sameStart b k j
-  unfolding sameStart
-  other-first n = rw (ne-eqb _ _ n)
-
-  module _ (e : getD b (10 * k) 0 ≡ getD b (10 * j) 0) where
-    pub other-second : (getD b (10 * k + 1) 0 ≡ getD b (10 * j + 1) 0 → ⊥) → false ≡ sameStart b k j
-    unfolding sameStart
-    other-second n = rw (eq-eqb _ _ e, ne-eqb _ _ n)
-
-    module _ (f : getD b (10 * k + 1) 0 ≡ getD b (10 * j + 1) 0) where
-      pub other-third : (getD b (10 * k + 2) 0 ≡ getD b (10 * j + 2) 0 → ⊥) → false ≡ sameStart b k j
-      unfolding sameStart
-      other-third n = rw (eq-eqb _ _ e, eq-eqb _ _ f, ne-eqb _ _ n)
-
-      pub by-fourth : getD b (10 * k + 2) 0 ≡ getD b (10 * j + 2) 0 → eqb (getD b (10 * k + 3) 0) (getD b (10 * j + 3) 0) ≡ sameStart b k j
-      unfolding sameStart
-      by-fourth g = rw (eq-eqb _ _ e, eq-eqb _ _ f, eq-eqb _ _ g)
-
 -- receivers in common
 module _ (b : List ℕ) (k j : ℕ) where
-  pub apart-hi : (getD b (10 * k + 4) 0 ≡ getD b (10 * j + 4) 0 → ⊥) → false ≡ meets b k j
+  pub apart-hi : (getD b (5 * k) 0 ≡ getD b (5 * j) 0 → ⊥) → false ≡ meets b k j
   unfolding meets
   apart-hi n = rw (ne-eqb _ _ n)
 
-  module _ (e : getD b (10 * k + 4) 0 ≡ getD b (10 * j + 4) 0) where
-    pub apart-lo : (getD b (10 * k + 5) 0 ≡ getD b (10 * j + 5) 0 → ⊥) → false ≡ meets b k j
+  module _ (e : getD b (5 * k) 0 ≡ getD b (5 * j) 0) where
+    pub apart-lo : (getD b (5 * k + 1) 0 ≡ getD b (5 * j + 1) 0 → ⊥) → false ≡ meets b k j
     unfolding meets
     apart-lo n = rw (eq-eqb _ _ e, ne-eqb _ _ n)
 
-    module _ (f : getD b (10 * k + 5) 0 ≡ getD b (10 * j + 5) 0) where
-      pub apart-index : (getD b (10 * k + 8) 0 ≡ getD b (10 * j + 8) 0 → ⊥) → false ≡ meets b k j
+    module _ (f : getD b (5 * k + 1) 0 ≡ getD b (5 * j + 1) 0) where
+      pub apart-index : (getD b (5 * k + 4) 0 ≡ getD b (5 * j + 4) 0 → ⊥) → false ≡ meets b k j
       unfolding meets
       apart-index n = rw (eq-eqb _ _ e, eq-eqb _ _ f, ne-eqb _ _ n)
 
-      module _ (g : getD b (10 * k + 8) 0 ≡ getD b (10 * j + 8) 0) where
-        pub apart-after : getD b (10 * j + 7) 0 < getD b (10 * k + 6) 0 → false ≡ meets b k j
+      module _ (g : getD b (5 * k + 4) 0 ≡ getD b (5 * j + 4) 0) where
+        pub apart-after : getD b (5 * j + 3) 0 < getD b (5 * k + 2) 0 → false ≡ meets b k j
         unfolding meets
         apart-after l = rw (eq-eqb _ _ e, eq-eqb _ _ f, eq-eqb _ _ g, lt-leb _ _ l)
 
-        pub met-before : getD b (10 * k + 6) 0 ≤ getD b (10 * j + 7) 0 → leb (getD b (10 * j + 6) 0) (getD b (10 * k + 7) 0) ≡ meets b k j
+        pub met-before : getD b (5 * k + 2) 0 ≤ getD b (5 * j + 3) 0 → leb (getD b (5 * j + 2) 0) (getD b (5 * k + 3) 0) ≡ meets b k j
         unfolding meets
         met-before l = rw (eq-eqb _ _ e, eq-eqb _ _ f, eq-eqb _ _ g, le-leb _ _ l)
 
@@ -141,6 +121,9 @@ module _ (g : ℕ → ℕ) where
   unfolding filled
   filled-length zero d = refl
   filled-length (suc n) d = length-set (filled g n d) n (g n) ∙ filled-length n d
+
+  pub same-length : (n : ℕ) (a d : List ℕ) → a ≡ filled g n d → length a ≡ length d
+  same-length n a d e = ap length e ∙ filled-length n d
 
   filled-at : (n : ℕ) (d : List ℕ) → n ≤ length d → (i : ℕ) → i < n → getD (filled g n d) i 0 ≡ g i
   unfolding filled

@@ -9,8 +9,6 @@ use Rattle.tables.proofs.walk as walk
 use Rattle.tables.proofs.walk.Reads as walk-reads
 use Rattle.tables.proofs.find_number as find-number
 use Rattle.tables.proofs.find_number.Reads as find-number-reads
-use Rattle.tables.proofs.same_start as same-start
-use Rattle.tables.proofs.same_start.Reads as same-start-reads
 use Rattle.tables.proofs.find_taken as find-taken
 use Rattle.tables.proofs.find_taken.Reads as find-taken-reads
 
@@ -25,9 +23,6 @@ walk-one κs a v v′ w w′ p p′ = (p ∙ sym p′, refl)
 
 pub find-number-one : One find-number.ended find-number-reads.Post
 find-number-one κs a v v′ w w′ p p′ = (p ∙ sym p′, refl)
-
-pub same-start-one : One same-start.ended same-start-reads.Post
-same-start-one κs a v v′ w w′ p p′ = (p ∙ sym p′, refl)
 
 pub find-taken-one : One find-taken.ended find-taken-reads.Post
 find-taken-one κs a v v′ w w′ p p′ = (p ∙ sym p′, refl)

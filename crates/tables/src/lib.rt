@@ -1,13 +1,13 @@
 // Numbers of lines in arrays, and what is looked for among them. Nothing here knows of files; what the numbers are is said where
 // they are written.
 //   points: row j is three numbers from 3 * j on, a name's two and a mark
-//   relations: row j is ten numbers from 10 * j on, of which 4 and 5 are a name's, 6 to 8 the first and last receiver and the index
+//   reaches: row j is five numbers from 5 * j on, a name's two, the first and last receiver and the index
 ghost use mathlib.Core.Path.{_≡_};
 ghost use Prim.Native.Nat.{_+_, _*_, _≤_, _<_};
 ghost use lib.Dec.{eqb};
 ghost use lib.ListN.{length, getD};
 ghost use Rattle.rules.specs.Places.{least};
-ghost use Rattle.tables.specs.Scan.{isKey, above as isAbove, walked, sameStart, meets as areMet, taken};
+ghost use Rattle.tables.specs.Scan.{isKey, above as isAbove, walked, meets as areMet, taken};
 
 // Row j is that name and mark.
 fn is_key(a: &[u64], j: usize, hi: u64, lo: u64, mark: u64) -> bool
@@ -91,46 +91,29 @@ pub fn find_number(a: &[u64], n: usize, v: u64) -> usize
     n
 }
 
-// Rows k and j begin with the same four numbers.
-pub fn same_start(b: &[u64], k: usize, j: usize) -> bool
-    requires { ⌜ (10 * k + 9 < length (now b)) × (10 * j + 9 < length (now b)) ⌝ }
-    ensures value { λ t. ⌜ t ≡ sameStart (now (b .entry)) k j ⌝ }
-{
-    if b[10 * k] != b[10 * j] {
-        return false;
-    }
-    if b[10 * k + 1] != b[10 * j + 1] {
-        return false;
-    }
-    if b[10 * k + 2] != b[10 * j + 2] {
-        return false;
-    }
-    b[10 * k + 3] == b[10 * j + 3]
-}
-
 // Rows k and j have one name and index, and receivers in common.
 fn meets(b: &[u64], k: usize, j: usize) -> bool
-    requires { ⌜ (10 * k + 9 < length (now b)) × (10 * j + 9 < length (now b)) ⌝ }
+    requires { ⌜ (5 * k + 4 < length (now b)) × (5 * j + 4 < length (now b)) ⌝ }
     ensures value { λ t. ⌜ t ≡ areMet (now (b .entry)) k j ⌝ }
 {
-    if b[10 * k + 4] != b[10 * j + 4] {
+    if b[5 * k] != b[5 * j] {
         return false;
     }
-    if b[10 * k + 5] != b[10 * j + 5] {
+    if b[5 * k + 1] != b[5 * j + 1] {
         return false;
     }
-    if b[10 * k + 8] != b[10 * j + 8] {
+    if b[5 * k + 4] != b[5 * j + 4] {
         return false;
     }
-    if b[10 * j + 7] < b[10 * k + 6] {
+    if b[5 * j + 3] < b[5 * k + 2] {
         return false;
     }
-    b[10 * j + 6] <= b[10 * k + 7]
+    b[5 * j + 2] <= b[5 * k + 3]
 }
 
 // Row j is of row k's record, and meets it.
 fn is_taken(c: &[u64], b: &[u64], k: usize, j: usize) -> bool
-    requires { ⌜ ((k < length (now c)) × (j < length (now c))) × ((10 * k + 9 < length (now b)) × (10 * j + 9 < length (now b))) ⌝ }
+    requires { ⌜ ((k < length (now c)) × (j < length (now c))) × ((5 * k + 4 < length (now b)) × (5 * j + 4 < length (now b))) ⌝ }
     ensures value { λ t. ⌜ t ≡ taken (now (c .entry)) (now (b .entry)) k j ⌝ }
 {
     if c[j] != c[k] {
@@ -141,7 +124,7 @@ fn is_taken(c: &[u64], b: &[u64], k: usize, j: usize) -> bool
 
 // The first row before row k of the same record that meets it, or k.
 pub fn find_taken(c: &[u64], b: &[u64], k: usize) -> usize
-    requires { ⌜ (k < length (now c)) × (10 * k + 9 < length (now b)) ⌝ }
+    requires { ⌜ (k < length (now c)) × (5 * k + 4 < length (now b)) ⌝ }
     ensures value { λ j. ⌜ j ≡ least k (taken (now (c .entry)) (now (b .entry)) k) ⌝ }
 {
     let mut j = 0;

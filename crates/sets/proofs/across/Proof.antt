@@ -17,11 +17,8 @@ slice-aggregate-read-3 c = search needs
 slice-aggregate-read-4 : tie.Need-slice-aggregate-read-4
 slice-aggregate-read-4 c = search needs
 
-slice-aggregate-read-5 : tie.Need-slice-aggregate-read-5
-slice-aggregate-read-5 c = search needs
-
 read-requires : tie.Need-read-requires
-read-requires c κs = (c .before .before .before .before .before .before .before .before .pre, (length-replicate {A = ℕ} 29997 0, (length-replicate {A = ℕ} 29997 0, (length-replicate {A = ℕ} 99990 0, (length-replicate {A = ℕ} 9999 0, length-replicate {A = ℕ} 9999 0)))))
+read-requires c κs = (c .before .before .before .before .before .before .before .pre, (length-replicate {A = ℕ} 29997 0, (length-replicate {A = ℕ} 49995 0, (length-replicate {A = ℕ} 9999 0, length-replicate {A = ℕ} 9999 0))))
 
 returns : tie.Need-returns
 returns c = search needs
@@ -34,6 +31,5 @@ across-spec =
     slice-aggregate-read-2
     slice-aggregate-read-3
     slice-aggregate-read-4
-    slice-aggregate-read-5
     read-requires
     returns)

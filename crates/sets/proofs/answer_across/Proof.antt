@@ -21,9 +21,6 @@ enum-told c = search needs
 points-requires : tie.Need-points-requires
 points-requires c κs = search needs
 
-points-requires-2 : tie.Need-points-requires-2
-points-requires-2 c κs = search needs
-
 relations-requires : tie.Need-relations-requires
 relations-requires c κs = search needs
 
@@ -32,8 +29,8 @@ traces-requires c κs = search needs
 
 returns-2 : tie.Need-returns-2
 returns-2 c =
-    counted _ _ _ _ _ _ _ (c .before .before .before .points .ensures) (c .before .before .points2 .ensures) (c .before .relations .ensures) (c .traces .ensures)
-    ∙ accepts _ _ (is-met _ _ (c .before .before .before .before .before .before .verdict-across .ensures) (c .before .before .before .before .enum-told .given .1))
+    counted _ _ _ _ _ _ _ (c .before .before .points .ensures) (c .before .before .before .before .before .before .before .before .before .before .before .before .before .pre .1) (c .before .relations .ensures) (c .traces .ensures)
+    ∙ accepts _ _ (is-met _ _ (c .before .before .before .before .before .verdict-across .ensures) (c .before .before .before .enum-told .given .1))
 
 pub answer-across-spec : {M : Type 1} → statement M
 answer-across-spec =
@@ -44,7 +41,6 @@ answer-across-spec =
     returns
     enum-told
     points-requires
-    points-requires-2
     relations-requires
     traces-requires
     returns-2)

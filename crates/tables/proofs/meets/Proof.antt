@@ -7,9 +7,6 @@ use Rattle.tables.proofs.meets.Tie as tie
 mul-if1 : tie.Need-mul-if1
 mul-if1 c = search needs
 
-add-if1 : tie.Need-add-if1
-add-if1 c = search needs
-
 mul-if1-2 : tie.Need-mul-if1-2
 mul-if1-2 c = search needs
 
@@ -18,9 +15,6 @@ shared-slice-read-if1 c = search needs
 
 mul-if1-3 : tie.Need-mul-if1-3
 mul-if1-3 c = search needs
-
-add-if1-2 : tie.Need-add-if1-2
-add-if1-2 c = search needs
 
 mul-if1-4 : tie.Need-mul-if1-4
 mul-if1-4 c = search needs
@@ -144,11 +138,9 @@ meets-spec =
     tie.close
     (tie.spec
     mul-if1
-    add-if1
     mul-if1-2
     shared-slice-read-if1
     mul-if1-3
-    add-if1-2
     mul-if1-4
     shared-slice-read-if1-2
     returns

@@ -4,23 +4,14 @@ use borrow.Author.Needs.{needs}
 use Rattle.order.proofs.relations.rule15.Statement.{statement}
 use Rattle.order.proofs.relations.rule15.Tie as tie
 
-mul-if1 : tie.Need-mul-if1
-mul-if1 c = search needs
-
-add-if1 : tie.Need-add-if1
-add-if1 c = search needs
-
-mul-if1-2 : tie.Need-mul-if1-2
-mul-if1-2 c = search needs
-
-shared-slice-read-if1 : tie.Need-shared-slice-read-if1
-shared-slice-read-if1 c = search needs
+stamp-requires : tie.Need-stamp-requires
+stamp-requires c κs = search needs
 
 returns : tie.Need-returns
 returns c =
-    let x = c .before .before .before .before .before .before .args in
-    let p = c .before .before .before .before .before .before .pre in
-    fifteen-other (x .s .now) (x .a .now) (x .x .now) (x .p .now) (p .0 .0 .1) (p .1 .0) (p .0 .1) _ (p .1 .1) (c .if1 .taken)
+    let x = c .before .before .before .before .before .args in
+    let p = c .before .before .before .before .before .pre in
+    fifteen-other (x .s .now) (x .x .now) (x .p .now) (p .1 .0) (p .0 .1) _ (p .1 .1) _ (c .before .stamp .ensures) (c .if1 .taken)
 
 line-count-requires : tie.Need-line-count-requires
 line-count-requires c κs = search needs
@@ -33,35 +24,32 @@ find-number-requires c κs = search needs
 
 returns-2 : tie.Need-returns-2
 returns-2 c =
-    let x = c .before .before .before .before .before .before .before .before .before .args in
-    let p = c .before .before .before .before .before .before .before .before .before .pre in
-    fifteen-fine (x .s .now) (x .a .now) (x .x .now) (x .p .now) (p .0 .0 .1) (p .1 .0) (p .0 .1) _ (p .1 .1) (c .before .before .before .if1 .left) _ _ (c .before .before .line-count .ensures) (c .before .find-number .ensures) (c .if2 .taken)
+    let x = c .before .before .before .before .before .before .before .before .args in
+    let p = c .before .before .before .before .before .before .before .before .pre in
+    fifteen-fine (x .s .now) (x .x .now) (x .p .now) (p .1 .0) (p .0 .1) _ (p .1 .1) _ (c .before .before .before .before .stamp .ensures) (c .before .before .before .if1 .left) _ _ (c .before .before .line-count .ensures) (c .before .find-number .ensures) (c .if2 .taken)
 
-cast-t14 : tie.Need-cast-t14
-cast-t14 c = search needs
+cast-t10 : tie.Need-cast-t10
+cast-t10 c = search needs
 
-add-t15 : tie.Need-add-t15
-add-t15 c = search needs
+add-t11 : tie.Need-add-t11
+add-t11 c = search needs
 
 returns-3 : tie.Need-returns-3
 returns-3 c =
-    let x = c .before .before .before .before .before .before .before .before .before .args in
-    let p = c .before .before .before .before .before .before .before .before .before .pre in
-    fifteen-broken (x .s .now) (x .a .now) (x .x .now) (x .p .now) (p .0 .0 .1) (p .1 .0) (p .0 .1) _ (p .1 .1) (c .before .before .before .if1 .left) _ _ (c .before .before .line-count .ensures) (c .before .find-number .ensures) (c .if2 .left)
+    let x = c .before .before .before .before .before .before .before .before .args in
+    let p = c .before .before .before .before .before .before .before .before .pre in
+    fifteen-broken (x .s .now) (x .x .now) (x .p .now) (p .1 .0) (p .0 .1) _ (p .1 .1) _ (c .before .before .before .before .stamp .ensures) (c .before .before .before .if1 .left) _ _ (c .before .before .line-count .ensures) (c .before .find-number .ensures) (c .if2 .left)
 
 pub rule15-spec : {M : Type 1} → statement M
 rule15-spec =
     tie.close
     (tie.spec
-    mul-if1
-    add-if1
-    mul-if1-2
-    shared-slice-read-if1
+    stamp-requires
     returns
     line-count-requires
     add-find-number
     find-number-requires
     returns-2
-    cast-t14
-    add-t15
+    cast-t10
+    add-t11
     returns-3)

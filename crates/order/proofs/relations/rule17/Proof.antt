@@ -10,57 +10,39 @@ goes-on-requires c κs = search needs
 
 returns : tie.Need-returns
 returns c =
-    let x = c .before .before .before .before .before .args in
-    let p = c .before .before .before .before .before .pre in
-    seventeen-other (x .x .now) (x .b .now) (x .c .now) (p .0 .0) (p .0 .1 .0) (p .0 .1 .1) _ (p .1 .0) (p .1 .1) _ (c .before .goes-on .ensures) (not-true _ (c .if1 .taken))
+    let x = c .before .before .before .before .args in
+    let p = c .before .before .before .before .pre in
+    seventeen-other (x .x .now) (x .c .now) (p .0 .0) (p .0 .1) _ (p .1 .0) (p .1 .1) _ (c .before .goes-on .ensures) (not-true _ (c .if1 .taken))
 
-sub-if2 : tie.Need-sub-if2
-sub-if2 c =
-    let x = c .before .before .before .before .before .args in
-    let p = c .before .before .before .before .before .pre in
-    some-before (x .x .now) (x .b .now) (x .c .now) (p .0 .0) (p .0 .1 .0) (p .0 .1 .1) _ (p .1 .0) (p .1 .1) _ (c .before .goes-on .ensures) (not-false _ (c .if1 .left))
+sub-relation-number : tie.Need-sub-relation-number
+sub-relation-number c =
+    let x = c .before .before .before .before .args in
+    let p = c .before .before .before .before .pre in
+    some-before (x .x .now) (x .c .now) (p .0 .0) (p .0 .1) _ (p .1 .0) (p .1 .1) _ (c .before .goes-on .ensures) (not-false _ (c .if1 .left))
 
-mul-if2 : tie.Need-mul-if2
-mul-if2 c = search needs
+relation-number-requires : tie.Need-relation-number-requires
+relation-number-requires c κs = search needs
 
-add-if2 : tie.Need-add-if2
-add-if2 c = search needs
-
-mul-if2-2 : tie.Need-mul-if2-2
-mul-if2-2 c = search needs
-
-shared-slice-read-if2 : tie.Need-shared-slice-read-if2
-shared-slice-read-if2 c = search needs
-
-mul-if2-3 : tie.Need-mul-if2-3
-mul-if2-3 c = search needs
-
-add-if2-2 : tie.Need-add-if2-2
-add-if2-2 c = search needs
-
-mul-if2-4 : tie.Need-mul-if2-4
-mul-if2-4 c = search needs
-
-shared-slice-read-if2-2 : tie.Need-shared-slice-read-if2-2
-shared-slice-read-if2-2 c = search needs
+relation-number-requires-2 : tie.Need-relation-number-requires-2
+relation-number-requires-2 c κs = search needs
 
 returns-2 : tie.Need-returns-2
 returns-2 c =
-    let x = c .before .before .before .before .before .before .before .before .args in
-    let p = c .before .before .before .before .before .before .before .before .pre in
-    seventeen-fine (x .x .now) (x .b .now) (x .c .now) (p .0 .0) (p .0 .1 .0) (p .0 .1 .1) _ (p .1 .0) (p .1 .1) _ (c .before .before .before .before .goes-on .ensures) (not-false _ (c .before .before .before .if1 .left)) (c .if2 .taken)
+    let x = c .before .before .before .before .before .before .before .args in
+    let p = c .before .before .before .before .before .before .before .pre in
+    seventeen-fine (x .x .now) (x .c .now) (p .0 .0) (p .0 .1) _ (p .1 .0) (p .1 .1) _ (c .before .before .before .before .goes-on .ensures) (not-false _ (c .before .before .before .if1 .left)) _ _ (c .before .before .relation-number .ensures) (c .before .relation-number2 .ensures) (c .if2 .taken)
 
-cast-t20 : tie.Need-cast-t20
-cast-t20 c = search needs
+cast-t11 : tie.Need-cast-t11
+cast-t11 c = search needs
 
-add-t21 : tie.Need-add-t21
-add-t21 c = search needs
+add-t12 : tie.Need-add-t12
+add-t12 c = search needs
 
 returns-3 : tie.Need-returns-3
 returns-3 c =
-    let x = c .before .before .before .before .before .before .before .before .args in
-    let p = c .before .before .before .before .before .before .before .before .pre in
-    seventeen-broken (x .x .now) (x .b .now) (x .c .now) (p .0 .0) (p .0 .1 .0) (p .0 .1 .1) _ (p .1 .0) (p .1 .1) _ (c .before .before .before .before .goes-on .ensures) (not-false _ (c .before .before .before .if1 .left)) (c .if2 .left)
+    let x = c .before .before .before .before .before .before .before .args in
+    let p = c .before .before .before .before .before .before .before .pre in
+    seventeen-broken (x .x .now) (x .c .now) (p .0 .0) (p .0 .1) _ (p .1 .0) (p .1 .1) _ (c .before .before .before .before .goes-on .ensures) (not-false _ (c .before .before .before .if1 .left)) _ _ (c .before .before .relation-number .ensures) (c .before .relation-number2 .ensures) (c .if2 .left)
 
 pub rule17-spec : {M : Type 1} → statement M
 rule17-spec =
@@ -68,16 +50,10 @@ rule17-spec =
     (tie.spec
     goes-on-requires
     returns
-    sub-if2
-    mul-if2
-    add-if2
-    mul-if2-2
-    shared-slice-read-if2
-    mul-if2-3
-    add-if2-2
-    mul-if2-4
-    shared-slice-read-if2-2
+    sub-relation-number
+    relation-number-requires
+    relation-number-requires-2
     returns-2
-    cast-t20
-    add-t21
+    cast-t11
+    add-t12
     returns-3)

@@ -82,9 +82,6 @@ add-last-2 c =
 mul-walk : tie.Need-mul-walk
 mul-walk c = search needs
 
-add-walk : tie.Need-add-walk
-add-walk c = search needs
-
 mul-walk-2 : tie.Need-mul-walk-2
 mul-walk-2 c = search needs
 
@@ -94,8 +91,8 @@ shared-slice-read-walk c = search needs
 mul-walk-3 : tie.Need-mul-walk-3
 mul-walk-3 c = search needs
 
-add-walk-2 : tie.Need-add-walk-2
-add-walk-2 c = search needs
+add-walk : tie.Need-add-walk
+add-walk c = search needs
 
 mul-walk-4 : tie.Need-mul-walk-4
 mul-walk-4 c = search needs
@@ -117,11 +114,11 @@ returns c =
     let p = c .before .before .before .before .before .before .before .before .before .before .before .before .pre in
     eighteen-fine (x .r .now) (x .a .now) (x .x .now) (x .b .now) (p .0 .0 .0) (p .0 .0 .1) (p .0 .1) (p .1 .0 .0) (p .1 .0 .1) _ (p .1 .1) _ _ (c .before .before .before .before .before .before .before .line-count .ensures) (c .before .walk .ensures) (c .if1 .taken)
 
-cast-t25 : tie.Need-cast-t25
-cast-t25 c = search needs
+cast-t24 : tie.Need-cast-t24
+cast-t24 c = search needs
 
-add-t26 : tie.Need-add-t26
-add-t26 c = search needs
+add-t25 : tie.Need-add-t25
+add-t25 c = search needs
 
 returns-2 : tie.Need-returns-2
 returns-2 c =
@@ -152,15 +149,14 @@ rule18-spec =
     mul-last-3
     add-last-2
     mul-walk
-    add-walk
     mul-walk-2
     shared-slice-read-walk
     mul-walk-3
-    add-walk-2
+    add-walk
     mul-walk-4
     shared-slice-read-walk-2
     walk-requires
     returns
-    cast-t25
-    add-t26
+    cast-t24
+    add-t25
     returns-2)

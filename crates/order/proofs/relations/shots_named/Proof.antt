@@ -13,10 +13,10 @@ use Rattle.order.proofs.relations.shots_named.Statement.{statement}
 use Rattle.order.proofs.relations.shots_named.Tie as tie
 
 abbrev Inv-loop : tie.InvT-loop
-Inv-loop s a x p n k₀ k = (k ≤ n) × (fine ≡ run (upTo k (rule15 (file s) (file x))))
+Inv-loop s x p n k₀ k = (k ≤ n) × (fine ≡ run (upTo k (rule15 (file s) (file x))))
 
 abbrev μ-loop : tie.MeasureT-loop
-μ-loop s a x p n k₀ k = n - k
+μ-loop s x p n k₀ k = n - k
 
 line-count-requires : tie.Need-line-count-requires Inv-loop μ-loop
 line-count-requires c κs = search needs
@@ -26,8 +26,8 @@ loop-holds c = (omega arith, none-yet _)
 
 rule15-requires : tie.Need-rule15-requires Inv-loop μ-loop
 rule15-requires c κs =
-    let x = c .before .before .before .before .before .before .before .args in
-    let p = c .before .before .before .before .before .before .before .pre in
+    let x = c .before .before .before .before .before .before .args in
+    let p = c .before .before .before .before .before .before .pre in
     let n = c .before .before .line-count .ensures in
     (p .0, (p .1, omega arith))
 
@@ -57,7 +57,7 @@ loop-again c =
 returns-2 : tie.Need-returns-2 Inv-loop μ-loop
 returns-2 c =
     let at = c .before .loop in
-    let x = c .before .before .before .before .before .before .before .args in
+    let x = c .before .before .before .before .before .before .args in
     let n = c .before .before .line-count .ensures in
     at .inv .1 ∙ ap (λ (k : ℕ). run (upTo k (rule15 (file (x .s .now)) (file (x .x .now))))) (omega arith)
 

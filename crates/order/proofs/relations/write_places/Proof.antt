@@ -11,10 +11,10 @@ use Rattle.order.proofs.relations.write_places.Statement.{statement}
 use Rattle.order.proofs.relations.write_places.Tie as tie
 
 abbrev Inv-loop : tie.InvT-loop
-Inv-loop s a x b c p₀ n k₀ p k = (k ≤ n) × ((p ≡ filled (place s x) k p₀) × (length p ≡ length p₀))
+Inv-loop s a x c p₀ n k₀ p k = (k ≤ n) × ((p ≡ filled (place s x) k p₀) × (length p ≡ length p₀))
 
 abbrev μ-loop : tie.MeasureT-loop
-μ-loop s a x b c p₀ n k₀ p k = n - k
+μ-loop s a x c p₀ n k₀ p k = n - k
 
 line-count-requires : tie.Need-line-count-requires Inv-loop μ-loop
 line-count-requires c κs = search needs
@@ -24,8 +24,8 @@ loop-holds c = (omega arith, (none-filled _ _, refl))
 
 place-requires : tie.Need-place-requires Inv-loop μ-loop
 place-requires c κs =
-    let x = c .before .before .before .before .before .before .before .before .before .args in
-    let p = c .before .before .before .before .before .before .before .before .before .pre in
+    let x = c .before .before .before .before .before .before .before .before .args in
+    let p = c .before .before .before .before .before .before .before .before .pre in
     let n = c .before .before .line-count .ensures in
     (p .0, (p .1 .0, omega arith))
 
@@ -52,7 +52,7 @@ same-length c = search needs
 returns : tie.Need-returns Inv-loop μ-loop
 returns c =
     let at = c .before .loop in
-    let x = c .before .before .before .before .before .before .before .before .before .args in
+    let x = c .before .before .before .before .before .before .before .before .args in
     let n = c .before .before .line-count .ensures in
     at .inv .1 .0 ∙ ap (λ (i : ℕ). filled (place (x .s .now) (x .x .now)) i (x .p .now)) (omega arith)
 

@@ -14,10 +14,10 @@ use Rattle.sets.proofs.counts.traces.Statement.{statement}
 use Rattle.sets.proofs.counts.traces.Tie as tie
 
 abbrev Inv-loop : tie.InvT-loop
-Inv-loop x b c n m₀ k₀ m k = (k ≤ n) × ((m ≤ 10000 * k) × (m ≡ sum k (λ j. pick (isData (file x) j) (traces (reachAt (file x) j)) 0)))
+Inv-loop x c n m₀ k₀ m k = (k ≤ n) × ((m ≤ 10000 * k) × (m ≡ sum k (λ j. pick (isData (file x) j) (traces (reachAt (file x) j)) 0)))
 
 abbrev μ-loop : tie.MeasureT-loop
-μ-loop x b c n m₀ k₀ m k = n - k
+μ-loop x c n m₀ k₀ m k = n - k
 
 line-count-requires : tie.Need-line-count-requires Inv-loop μ-loop
 line-count-requires c κs = search needs
@@ -28,7 +28,7 @@ loop-holds c = (omega arith, (omega arith, sym (sum-none _)))
 line-traces-requires : tie.Need-line-traces-requires Inv-loop μ-loop
 line-traces-requires c κs =
     let n = c .before .before .line-count .ensures in
-    (c .before .before .before .before .before .before .pre, omega arith)
+    (c .before .before .before .before .before .pre, omega arith)
 
 add-m : tie.Need-add-m Inv-loop μ-loop
 add-m c = search needs
@@ -50,7 +50,7 @@ returns : tie.Need-returns Inv-loop μ-loop
 unfolding allTraces
 returns c =
     let at = c .before .loop in
-    let x = c .before .before .before .before .before .before .args in
+    let x = c .before .before .before .before .before .args in
     let n = c .before .before .line-count .ensures in
     at .inv .1 .1 ∙ ap (λ (k : ℕ). sum k (λ j. pick (isData (file (x .x .now)) j) (traces (reachAt (file (x .x .now)) j)) 0)) (omega arith)
 

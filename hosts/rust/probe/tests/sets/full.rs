@@ -83,14 +83,14 @@ fn hostile_sets() {
     assert_eq!(numbers, BTreeSet::from([0, 9, 12, 13, 15, 16, 18, 19]));
 }
 
-/// The largest set needs no more stack than is stated of the call.
+/// The largest set needs no more stack than a megabyte, all that the thread has.
 #[test]
-fn a_megabyte_and_a_half_of_stack() {
+fn one_megabyte_of_stack() {
     let accepted = two_million_traces();
     let refused = accepted.clone().put(File::X, 9_999, 8, "   0");
     for set in [accepted, refused] {
         let expected = naive(&set);
-        let small = thread::Builder::new().stack_size(3 << 19);
+        let small = thread::Builder::new().stack_size(1 << 20);
         let answer = small.spawn(move || proved(&set)).expect("a thread").join();
         assert_eq!(answer.expect("an answer"), expected);
     }
