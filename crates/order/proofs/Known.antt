@@ -169,36 +169,32 @@ module _ (x : List ℕ) (k : ℕ) where
   unfolding relationRow relationAt disc
   set-mark = refl
 
-  pub channels-at : number 9 ≡ 65536 * reachAt (file x) k .from + reachAt (file x) k .upto
+  pub channels-at : number 8 ≡ 65536 * reachAt (file x) k .from + reachAt (file x) k .upto
   unfolding relationRow relation reachAt disc
   channels-at = refl
 
 module _ (x b : List ℕ) (w : HoldsReaches x b) (k : ℕ) (h : k < file x .count) where
-  cell-at : (c : ℕ) → c < 5 → getD b (5 * k + c) 0 ≡ number x k (4 + c)
+  cell-at : (c : ℕ) → c < 4 → getD b (4 * k + c) 0 ≡ number x k (4 + c)
   unfolding rowNumber
   cell-at c g =
-      w .1 (5 * k + c) (omega arith)
-      ∙ ap₂ (λ (j d : ℕ). number x j (4 + d)) (let z : (5 * k + c) / 5 ≡ k = omega arith in z) (let z : (5 * k + c) % 5 ≡ c = omega arith in z)
+      w .1 (4 * k + c) (omega arith)
+      ∙ ap₂ (λ (j d : ℕ). number x j (4 + d)) (let z : (4 * k + c) / 4 ≡ k = omega arith in z) (let z : (4 * k + c) % 4 ≡ c = omega arith in z)
 
-  pub receiver-hi : getD b (5 * k) 0 ≡ numbersOf (reachAt (file x) k .receiver) .hi
+  pub receiver-hi : getD b (4 * k) 0 ≡ numbersOf (reachAt (file x) k .receiver) .hi
   unfolding relationRow relation reachAt disc
-  receiver-hi = ap (λ (n : ℕ). getD b n 0) (let z : 5 * k ≡ 5 * k + 0 = omega arith in z) ∙ cell-at 0 (lit≤ tt)
+  receiver-hi = ap (λ (n : ℕ). getD b n 0) (let z : 4 * k ≡ 4 * k + 0 = omega arith in z) ∙ cell-at 0 (lit≤ tt)
 
-  pub receiver-lo : getD b (5 * k + 1) 0 ≡ numbersOf (reachAt (file x) k .receiver) .lo
+  pub receiver-lo : getD b (4 * k + 1) 0 ≡ numbersOf (reachAt (file x) k .receiver) .lo
   unfolding relationRow relation reachAt disc
   receiver-lo = cell-at 1 (lit≤ tt)
 
-  pub from-at : getD b (5 * k + 2) 0 ≡ reachAt (file x) k .fromReceiver
+  pub first-at : getD b (4 * k + 2) 0 ≡ mark (reachAt (file x) k .fromReceiver) (reachAt (file x) k .receiverIndex)
   unfolding relationRow relation reachAt disc
-  from-at = cell-at 2 (lit≤ tt)
+  first-at = cell-at 2 (lit≤ tt)
 
-  pub to-at : getD b (5 * k + 3) 0 ≡ reachAt (file x) k .toReceiver
+  pub last-at : getD b (4 * k + 3) 0 ≡ mark (reachAt (file x) k .toReceiver) (reachAt (file x) k .receiverIndex)
   unfolding relationRow relation reachAt disc
-  to-at = cell-at 3 (lit≤ tt)
-
-  pub index-at : getD b (5 * k + 4) 0 ≡ reachAt (file x) k .receiverIndex
-  unfolding relationRow relation reachAt disc
-  index-at = cell-at 4 (lit≤ tt)
+  last-at = cell-at 3 (lit≤ tt)
 
 pub record-at : (x c : List ℕ) → HoldsRecords x c → (k : ℕ) → k < file x .count
     → getD c k 0 ≡ pick (isData (file x) k) (65536 * packed (reachAt (file x) k .tape) + reachAt (file x) k .number + 1) 0

@@ -6,7 +6,7 @@ use mathlib.Core.Bool.{Bool, true, false, not, _&&_, _||_}
 use mathlib.Core.List.{List}
 use lib.Dec.{eqb, leb, ltb}
 use lib.ListN.{getD}
-use borrow.Author.Tests.{eq-eqb, ne-eqb, lt-ltb, le-ltb, le-leb, leb-true}
+use borrow.Author.Tests.{eq-eqb, ne-eqb, eqb-true, lt-ltb, le-ltb, le-leb, leb-true}
 use Rattle.rules.specs.Places.{pick, every, least, ifBefore, isBefore}
 use Rattle.rules.specs.Text.{same}
 use Rattle.rules.specs.Plan.{fine, refused, №, run}
@@ -23,9 +23,10 @@ use Rattle.rules.proofs.Form.{data-is}
 use Rattle.rules.proofs.Cover.{covers-is, some-receiver}
 use Rattle.fields.specs.Packed.{packed, nameOf}
 use Rattle.tables.specs.Scan.{meets, taken}
+use Rattle.rows.specs.Numbers.{mark}
 use Rattle.rows.proofs.Bytes.{names-equal, texts-equal}
 use Rattle.order.specs.Held.{Known, HoldsReaches, HoldsRecords}
-use Rattle.order.proofs.Known.{number, formed, source-wide, shot-index, instrument-small, receiver-wide, tape-long, record-small, upto-small, source-hi, source-lo, shot-mark, set-mark, receiver-hi, receiver-lo, from-at, to-at, index-at, channels-at, record-at}
+use Rattle.order.proofs.Known.{number, formed, source-wide, shot-index, instrument-small, receiver-wide, tape-long, record-small, upto-small, source-hi, source-lo, shot-mark, set-mark, receiver-index, receiver-hi, receiver-lo, first-at, last-at, channels-at, record-at}
 use Rattle.order.proofs.Compare.{agree, and-and, found, not-found, base-same, mark-same}
 use Rattle.order.proofs.Shots.{least-same}
 
@@ -136,10 +137,10 @@ module _ (x c : List ℕ) (w : Known 3 x) (vc : HoldsRecords x c) (k : ℕ) (h :
       unfolding rule16 disc sps93
       sixteen-changed u q s = need-broken _ _ (joined u q ∙ s)
 
-      channels : (j : ℕ) → j < file x .count → (number x j 9 % 65536 ≡ reachAt (file x) j .upto) × (number x j 9 / 65536 ≡ reachAt (file x) j .from)
+      channels : (j : ℕ) → j < file x .count → (number x j 8 % 65536 ≡ reachAt (file x) j .upto) × (number x j 8 / 65536 ≡ reachAt (file x) j .from)
       channels j g = let s = upto-small 3 x w j g in let q = channels-at x j in (omega arith, omega arith)
 
-      module _ (m n : ℕ) (p : m ≡ number x (k - 1) 9) (q : n ≡ number x k 9) where
+      module _ (m n : ℕ) (p : m ≡ number x (k - 1) 8) (q : n ≡ number x k 8) where
         rising : rises (reachesOf (file x)) k ≡ ltb (m % 65536) (n / 65536)
         unfolding rises reachesOf
         rising =
@@ -197,6 +198,32 @@ overlap a b c d p q r s =
     yes-no (leb a c) (λ t. let l = leb-true a c t in (c, (l, s), (omega arith, q)))
     (λ t. let m : a ≤ c → ⊥ = λ l. t (le-leb a c l) in (a, (omega arith, p), (omega arith, r)))
 
+-- marks of one index compare as their numbers do
+module _ (i j : ℕ) (h : i < 256) (g : j < 256) (a b c d : ℕ) where
+  marks-meet : (eqb (mark a i % 256) (mark c j % 256) && (leb (mark a i) (mark d j) && leb (mark c j) (mark b i))) ≡ (eqb i j && (leb a d && leb c b))
+  unfolding mark
+  marks-meet =
+      agree _ _
+      (λ t.
+      let y = and-is (eqb (mark a i % 256) (mark c j % 256)) (leb (mark a i) (mark d j) && leb (mark c j) (mark b i)) .0 t in
+      let z = and-is (leb (mark a i) (mark d j)) (leb (mark c j) (mark b i)) .0 (y .1) in
+      let e = eqb-true (mark a i % 256) (mark c j % 256) (y .0) in
+      let l = leb-true (mark a i) (mark d j) (z .0) in
+      let m = leb-true (mark c j) (mark b i) (z .1) in
+      and-is (eqb i j) (leb a d && leb c b) .1
+      (eq-eqb i j (omega arith), and-is (leb a d) (leb c b) .1 (le-leb a d (omega arith), le-leb c b (omega arith))))
+      (λ t.
+      let y = and-is (eqb i j) (leb a d && leb c b) .0 t in
+      let z = and-is (leb a d) (leb c b) .0 (y .1) in
+      let e = eqb-true i j (y .0) in
+      let l = leb-true a d (z .0) in
+      let m = leb-true c b (z .1) in
+      and-is (eqb (mark a i % 256) (mark c j % 256)) (leb (mark a i) (mark d j) && leb (mark c j) (mark b i)) .1 (
+        eq-eqb (mark a i % 256) (mark c j % 256) (omega arith),
+        and-is (leb (mark a i) (mark d j)) (leb (mark c j) (mark b i)) .1
+            (le-leb (mark a i) (mark d j) (omega arith), le-leb (mark c j) (mark b i) (omega arith)),
+      ))
+
 module _ (x b c : List ℕ) (w : Known 3 x) (vb : HoldsReaches x b) (vc : HoldsRecords x c) (k : ℕ) (h : k < file x .count) (e : isData (file x) k ≡ true) where
   ordered : (j : ℕ) → j < file x .count → isData (file x) j ≡ true → reachAt (file x) j .fromReceiver ≤ reachAt (file x) j .toReceiver
   unfolding reachAt disc
@@ -215,16 +242,15 @@ module _ (x b c : List ℕ) (w : Known 3 x) (vb : HoldsReaches x b) (vc : HoldsR
         receiver-hi x b vb j g,
         receiver-lo x b vb k h,
         receiver-lo x b vb j g,
-        index-at x b vb k h,
-        index-at x b vb j g,
-        from-at x b vb k h,
-        from-at x b vb j g,
-        to-at x b vb k h,
-        to-at x b vb j g,
+        first-at x b vb k h,
+        first-at x b vb j g,
+        last-at x b vb k h,
+        last-at x b vb j g,
       )
       (sym (and-and (eqb (nameOf (p .receiver) .hi) (nameOf (q .receiver) .hi)) (eqb (nameOf (p .receiver) .lo) (nameOf (q .receiver) .lo)) _)
       ∙ ap₂ _&&_ (names-equal (p .receiver) (q .receiver) (receiver-wide 3 x w k h) (receiver-wide 3 x w j g))
-      (ap (λ (t : Bool). eqb (p .receiverIndex) (q .receiverIndex) && t)
+      (marks-meet (p .receiverIndex) (q .receiverIndex) (receiver-index 3 x w k h) (receiver-index 3 x w j g) (p .fromReceiver) (p .toReceiver) (q .fromReceiver) (q .toReceiver)
+      ∙ ap (λ (t : Bool). eqb (p .receiverIndex) (q .receiverIndex) && t)
       (agree _ _
       (λ t.
       let y = and-is (leb (p .fromReceiver) (q .toReceiver)) (leb (q .fromReceiver) (p .toReceiver)) .0 t in

@@ -26,15 +26,18 @@ use Rattle.fields.specs.Packed.{nameOf}
 use Rattle.tables.specs.Scan.{isKey, above as aboveBy, walked}
 use Rattle.rows.specs.Numbers.{mark}
 use Rattle.order.specs.Held.{Known, HoldsPoints, HoldsReaches}
-use Rattle.order.proofs.Known.{receiver-wide, receiver-index, from-small, to-small, from-at, to-at, index-at, receiver-hi, receiver-lo}
+use Rattle.order.proofs.Known.{receiver-wide, receiver-index, from-small, first-at, last-at, receiver-hi, receiver-lo}
 use Rattle.order.proofs.Compare.{agree, key-is, above-is}
 use Rattle.order.proofs.Last.{point-on}
 
--- the numbers of receivers and their index leave room for a mark
-pub receivers-below : (x b : List ℕ) → Known 3 x → HoldsReaches x b → (k : ℕ) → k < file x .count
-    → (getD b (5 * k + 2) 0 < 100000000) × ((getD b (5 * k + 3) 0 < 100000000) × (getD b (5 * k + 4) 0 < 256))
-receivers-below x b w v k h =
-    (rw (from-at x b v k h) (from-small 3 x w k h), (rw (to-at x b v k h) (to-small 3 x w k h), rw (index-at x b v k h) (receiver-index 3 x w k h)))
+-- the mark of a line's first receiver leaves room for those after it
+pub first-below : (x b : List ℕ) → Known 3 x → HoldsReaches x b → (k : ℕ) → k < file x .count → getD b (4 * k + 2) 0 < 1099511627776
+unfolding mark
+first-below x b w v k h =
+    let e = first-at x b v k h in
+    let f = from-small 3 x w k h in
+    let i = receiver-index 3 x w k h in
+    omega arith
 
 -- rows with a mark rise
 abbrev Rising : List ℕ → ℕ → Type 0
@@ -164,25 +167,14 @@ module _ (r a x b : List ℕ) (wr : Known 1 r) (va : HoldsPoints r a) (ok : fine
       let f = w .1 .1 .0 e (omega arith) in
       some-is n _ .1 (f .0, f .1, sym (holds e (f .0) (f .1)) ∙ f .2)))
 
-  -- as the code makes the marks from its numbers
-  abbrev marked : ℕ → ℕ
-  marked c = 256 * getD b (5 * k + c) 0 + (getD b (5 * k + 4) 0 + 1)
+  module _ (n m : ℕ) (y : n ≡ file r .count) (e : m ≡ walked a (getD b (4 * k) 0) (getD b (4 * k + 1) 0) (getD b (4 * k + 2) 0) n) where
+    reached : receiversThere (file r) q ≡ ltb (getD b (4 * k + 3) 0) m
+    reached = all-there ∙ sym (ap₂ ltb (last-at x b vb k h) (e ∙ (rw (receiver-hi x b vb k h, receiver-lo x b vb k h, first-at x b vb k h, y))))
 
-  module _ (n m : ℕ) (y : n ≡ file r .count) (e : m ≡ walked a (getD b (5 * k) 0) (getD b (5 * k + 1) 0) (marked 2) n) where
-    reached : receiversThere (file r) q ≡ ltb (marked 3) m
-    unfolding mark
-    reached =
-        let f = from-at x b vb k h in
-        let g = to-at x b vb k h in
-        let i = index-at x b vb k h in
-        let u : marked 2 ≡ mark (q .fromReceiver) (q .receiverIndex) = omega arith in
-        let v : marked 3 ≡ mark (q .toReceiver) (q .receiverIndex) = omega arith in
-        all-there ∙ sym (ap₂ ltb v (e ∙ (rw (receiver-hi x b vb k h, receiver-lo x b vb k h, u, y))))
-
-    pub eighteen-fine : marked 3 < m → fine ≡ run (rule18 (file r) (file x) k)
+    pub eighteen-fine : getD b (4 * k + 3) 0 < m → fine ≡ run (rule18 (file r) (file x) k)
     unfolding rule18
-    eighteen-fine l = need-met _ _ (reached ∙ lt-ltb (marked 3) m l)
+    eighteen-fine l = need-met _ _ (reached ∙ lt-ltb _ _ l)
 
-    pub eighteen-broken : m ≤ marked 3 → refused (№ 18 3 (k + 1) 64) ≡ run (rule18 (file r) (file x) k)
+    pub eighteen-broken : m ≤ getD b (4 * k + 3) 0 → refused (№ 18 3 (k + 1) 64) ≡ run (rule18 (file r) (file x) k)
     unfolding rule18 disc sps93
-    eighteen-broken l = need-broken _ _ (reached ∙ le-ltb (marked 3) m l)
+    eighteen-broken l = need-broken _ _ (reached ∙ le-ltb _ _ l)

@@ -32,7 +32,7 @@ abbrev pub HoldsPoints : List ℕ → List ℕ → Type 0
 HoldsPoints f a = Holds a (numberOf Points (file f)) (3 * file f .count)
 
 abbrev pub HoldsReaches : List ℕ → List ℕ → Type 0
-HoldsReaches x b = Holds b (numberOf Reaches (file x)) (5 * file x .count)
+HoldsReaches x b = Holds b (numberOf Reaches (file x)) (4 * file x .count)
 
 abbrev pub HoldsRecords : List ℕ → List ℕ → Type 0
 HoldsRecords x c = Holds c (numberOf Records (file x)) (file x .count)

@@ -1,6 +1,6 @@
 // 13, 14, 16, 17, 18 and 19 of a relation line, and 15 of a shot. The arrays hold numbers: a those of the point lines of R or of S,
-// b those of the relation lines' receivers, c their tapes and records, p the places of their shots. What is compared with the line
-// just before alone is read from the text.
+// b those of the relation lines' receivers, c their tapes and records, p the places of their shots. What is compared with one
+// line alone, or looked for once, is read from the text.
 ghost use mathlib.Core.Path.{_≡_};
 ghost use Prim.Native.Nat.{_+_, _≤_, _<_};
 ghost use lib.ListN.{length};
@@ -122,7 +122,7 @@ fn rule17(x: &[u8], c: &[u64], k: usize) -> Verdict
     if !goes_on(x, c, k) {
         return Verdict::Fine;
     }
-    if rows::relation_number(x, k - 1, 9) % 65536 < rows::relation_number(x, k, 9) / 65536 {
+    if rows::relation_number(x, k - 1, 8) % 65536 < rows::relation_number(x, k, 8) / 65536 {
         return Verdict::Fine;
     }
     Verdict::Refused(17, 3, k as u32 + 1, 39)
@@ -134,10 +134,8 @@ fn rule18(r: &[u8], a: &[u64], x: &[u8], b: &[u64], k: usize) -> Verdict
     ensures verdict { λ v. ⌜ paper v ≡ run (rule18Of (file (now (r .entry))) (file (now (x .entry))) k) ⌝ }
 {
     let n = lines::line_count(r);
-    let index = b[5 * k + 4] + 1;
-    let first = 256 * b[5 * k + 2] + index;
-    let last = 256 * b[5 * k + 3] + index;
-    if last < tables::walk(a, n, b[5 * k], b[5 * k + 1], first) {
+    let wanted = tables::walk(a, n, b[4 * k], b[4 * k + 1], b[4 * k + 2]);
+    if b[4 * k + 3] < wanted {
         return Verdict::Fine;
     }
     Verdict::Refused(18, 3, k as u32 + 1, 64)

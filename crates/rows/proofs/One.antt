@@ -1,4 +1,5 @@
--- The contracts of this crate leave one outcome: any two numbers, and contents of the lent array, that meet one of them are the same.
+-- The contracts of this crate leave one outcome: any two numbers, and contents of the lent array, that meet one of them are the
+-- same.
 use mathlib.Core.Path.{refl, sym, _∙_}
 use Rattle.outcome.specs.One.{One, both}
 use Rattle.rows.proofs.relation_number as relation-number

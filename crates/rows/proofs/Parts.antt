@@ -58,9 +58,9 @@ module _ (t : Rows) (f : Sheet) (i : ℕ) where
   unfolding sizeOf
   point-line e h = let g : i < 3 * f .count = rw e at h in omega arith
 
-  pub reach-line : t ≡ Reaches → i < sizeOf t f → i / 5 < f .count
+  pub reach-line : t ≡ Reaches → i < sizeOf t f → i / 4 < f .count
   unfolding sizeOf
-  reach-line e h = let g : i < 5 * f .count = rw e at h in omega arith
+  reach-line e h = let g : i < 4 * f .count = rw e at h in omega arith
 
   pub record-line : t ≡ Records → i < sizeOf t f → i < f .count
   unfolding sizeOf

@@ -4,7 +4,7 @@
 --   mark p i        = a point number and an index as one number, never 0
 --   pointMark l     = that of a receiver or a shot; 0 for any other line
 --   pointRow l      = the numbers of a point line: its name's two, and its mark
---   relationRow l   = those of a relation line: source name, shot, increment and instrument, receiver name, receivers, index, channels
+--   relationRow l   = those of a relation line: source name, shot, increment and instrument, receiver name, first and last receiver, channels
 --   recordOf l      = its tape and record as one number, never 0; 0 for a header line
 --   numberOf t f i  = number i of a file: of its point lines, of its relation lines those of their receivers, or of its records
 --   sizeOf t f      = how many there are
@@ -51,17 +51,17 @@ relationRow l =
     ∷ mark (v .increment) (v .instrument)
     ∷ nameOf (q .receiver) .hi
     ∷ nameOf (q .receiver) .lo
-    ∷ q .fromReceiver ∷ q .toReceiver ∷ q .receiverIndex ∷ (65536 * q .from + q .upto) ∷ []
+    ∷ mark (q .fromReceiver) (q .receiverIndex) ∷ mark (q .toReceiver) (q .receiverIndex) ∷ (65536 * q .from + q .upto) ∷ []
 
 unfoldable pub recordOf : List ℕ → ℕ
 recordOf l = let q = reach sps93 l in pick (not (isHeader l)) (65536 * packed (q .tape) + q .number + 1) 0
 
 unfoldable pub numberOf : Rows → Sheet → ℕ → ℕ
 numberOf Points f i = getD (pointRow (f .row (i / 3))) (i % 3) 0
-numberOf Reaches f i = getD (relationRow (f .row (i / 5))) (4 + i % 5) 0
+numberOf Reaches f i = getD (relationRow (f .row (i / 4))) (4 + i % 4) 0
 numberOf Records f i = recordOf (f .row i)
 
 unfoldable pub sizeOf : Rows → Sheet → ℕ
 sizeOf Points f = 3 * f .count
-sizeOf Reaches f = 5 * f .count
+sizeOf Reaches f = 4 * f .count
 sizeOf Records f = f .count

@@ -10,7 +10,7 @@ use fields::names;
 use records::fits;
 use records::relation;
 
-// What of each line is written: three numbers of a point line, the five of a relation line that tell its receivers, or its tape and
+// What of each line is written: three numbers of a point line, the four of a relation line that tell its receivers, or its tape and
 // record as one.
 pub enum Rows {
     Points,
@@ -52,7 +52,7 @@ fn point_part(l: &[u8; 80], c: usize) -> u64
 
 // The first and last channel of a relation line as one number.
 fn channels(l: &[u8; 80]) -> u64
-    ensures value { λ n. ⌜ n ≡ getD (relationRow (now (l .entry))) 9 0 ⌝ }
+    ensures value { λ n. ⌜ n ≡ getD (relationRow (now (l .entry))) 8 0 ⌝ }
 {
     let from = relation::number_at(l, 39, 42) as u64;
     65536 * from + relation::number_at(l, 43, 46) as u64
@@ -60,7 +60,7 @@ fn channels(l: &[u8; 80]) -> u64
 
 // Number c of a relation line.
 fn relation_part(l: &[u8; 80], c: usize) -> u64
-    requires { ⌜ c < 10 ⌝ }
+    requires { ⌜ c < 9 ⌝ }
     ensures value { λ n. ⌜ n ≡ getD (relationRow (now (l .entry))) c 0 ⌝ }
 {
     if c < 5 {
@@ -74,9 +74,8 @@ fn relation_part(l: &[u8; 80], c: usize) -> u64
     } else {
         match c {
             5 => names::pack(l, 56, 63),
-            6 => relation::number_at(l, 64, 71) as u64,
-            7 => relation::number_at(l, 72, 79) as u64,
-            8 => relation::index_at(l, 80) as u64,
+            6 => mark(relation::number_at(l, 64, 71), relation::index_at(l, 80)),
+            7 => mark(relation::number_at(l, 72, 79), relation::index_at(l, 80)),
             _ => channels(l),
         }
     }
@@ -84,7 +83,7 @@ fn relation_part(l: &[u8; 80], c: usize) -> u64
 
 // Number c of relation line k.
 pub fn relation_number(x: &[u8], k: usize, c: usize) -> u64
-    requires { ⌜ (k < file (now x) .count) × (c < 10) ⌝ }
+    requires { ⌜ (k < file (now x) .count) × (c < 9) ⌝ }
     ensures value { λ n. ⌜ n ≡ getD (relationRow (file (now (x .entry)) .row k)) c 0 ⌝ }
 {
     relation_part(&lines::line_of(x, k), c)
@@ -110,7 +109,7 @@ fn size_of(t: Rows, f: &[u8]) -> usize
     let n = lines::line_count(f);
     match t {
         Rows::Points => 3 * n,
-        Rows::Reaches => 5 * n,
+        Rows::Reaches => 4 * n,
         Rows::Records => n,
     }
 }
@@ -122,7 +121,7 @@ fn number_of(t: Rows, f: &[u8], i: usize) -> u64
 {
     match t {
         Rows::Points => point_part(&lines::line_of(f, i / 3), i % 3),
-        Rows::Reaches => relation_number(f, i / 5, 4 + i % 5),
+        Rows::Reaches => relation_number(f, i / 4, 4 + i % 4),
         Rows::Records => record(&lines::line_of(f, i)),
     }
 }

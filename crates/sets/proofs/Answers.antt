@@ -64,13 +64,13 @@ module _ (f a d : List ℕ) (h : file f .count < 10000) where
   unfolding sizeOf
   points-again g l n e = let m = same-length (numberOf Points (file f)) (3 * file f .count) a d e in omega arith
 
-  pub reaches-room : length d ≡ 49995 → sizeOf Reaches (file f) ≤ length d
+  pub reaches-room : length d ≡ 39996 → sizeOf Reaches (file f) ≤ length d
   unfolding sizeOf
   reaches-room n = omega arith
 
-  pub reaches-held : length d ≡ 49995 → a ≡ filled (numberOf Reaches (file f)) (sizeOf Reaches (file f)) d → HoldsReaches f a
+  pub reaches-held : length d ≡ 39996 → a ≡ filled (numberOf Reaches (file f)) (sizeOf Reaches (file f)) d → HoldsReaches f a
   unfolding sizeOf
-  reaches-held n e = filled-holds _ (5 * file f .count) a d (omega arith) e
+  reaches-held n e = filled-holds _ (4 * file f .count) a d (omega arith) e
 
   pub records-room : length d ≡ 9999 → sizeOf Records (file f) ≤ length d
   unfolding sizeOf

@@ -18,7 +18,7 @@ module _ (x : List ℕ) (k : ℕ) where
   unfolding pick
   no-traces e = rw e
 
-  module _ (w : Known 3 x) (h : k < file x .count) (e : isData (file x) k ≡ true) (n : ℕ) (q : n ≡ number x k 9) where
+  module _ (w : Known 3 x) (h : k < file x .count) (e : isData (file x) k ≡ true) (n : ℕ) (q : n ≡ number x k 8) where
     ordered : reachAt (file x) k .from ≤ reachAt (file x) k .upto
     unfolding reachAt disc
     ordered = formed 3 x w .rule6 k h (data-is (file x) k .0 e, refl) .0

@@ -56,7 +56,7 @@ fn line_traces(x: &[u8], c: &[u64], k: usize) -> u64
     if c[k] == 0 {
         return 0;
     }
-    let n = rows::relation_number(x, k, 9);
+    let n = rows::relation_number(x, k, 8);
     n % 65536 + 1 - n / 65536
 }
 

@@ -1,5 +1,5 @@
 -- The scans by what the code finds at each step, and that what is written is held.
-use Prim.Native.Nat.{ℕ, zero, suc, _+_, _*_, _≤_, _<_}
+use Prim.Native.Nat.{ℕ, zero, suc, _+_, _*_, _%_, _≤_, _<_}
 use native.Mathlib.Numerals.{add-one}
 use native.Mathlib.Omega.{arith}
 use mathlib.Core.Path.{_≡_, refl, sym, ap, _∙_, subst}
@@ -74,26 +74,26 @@ module _ (a : List ℕ) (hi lo mark : ℕ) where
 
 -- receivers in common
 module _ (b : List ℕ) (k j : ℕ) where
-  pub apart-hi : (getD b (5 * k) 0 ≡ getD b (5 * j) 0 → ⊥) → false ≡ meets b k j
+  pub apart-hi : (getD b (4 * k) 0 ≡ getD b (4 * j) 0 → ⊥) → false ≡ meets b k j
   unfolding meets
   apart-hi n = rw (ne-eqb _ _ n)
 
-  module _ (e : getD b (5 * k) 0 ≡ getD b (5 * j) 0) where
-    pub apart-lo : (getD b (5 * k + 1) 0 ≡ getD b (5 * j + 1) 0 → ⊥) → false ≡ meets b k j
+  module _ (e : getD b (4 * k) 0 ≡ getD b (4 * j) 0) where
+    pub apart-lo : (getD b (4 * k + 1) 0 ≡ getD b (4 * j + 1) 0 → ⊥) → false ≡ meets b k j
     unfolding meets
     apart-lo n = rw (eq-eqb _ _ e, ne-eqb _ _ n)
 
-    module _ (f : getD b (5 * k + 1) 0 ≡ getD b (5 * j + 1) 0) where
-      pub apart-index : (getD b (5 * k + 4) 0 ≡ getD b (5 * j + 4) 0 → ⊥) → false ≡ meets b k j
+    module _ (f : getD b (4 * k + 1) 0 ≡ getD b (4 * j + 1) 0) where
+      pub apart-index : (getD b (4 * k + 2) 0 % 256 ≡ getD b (4 * j + 2) 0 % 256 → ⊥) → false ≡ meets b k j
       unfolding meets
       apart-index n = rw (eq-eqb _ _ e, eq-eqb _ _ f, ne-eqb _ _ n)
 
-      module _ (g : getD b (5 * k + 4) 0 ≡ getD b (5 * j + 4) 0) where
-        pub apart-after : getD b (5 * j + 3) 0 < getD b (5 * k + 2) 0 → false ≡ meets b k j
+      module _ (g : getD b (4 * k + 2) 0 % 256 ≡ getD b (4 * j + 2) 0 % 256) where
+        pub apart-after : getD b (4 * j + 3) 0 < getD b (4 * k + 2) 0 → false ≡ meets b k j
         unfolding meets
         apart-after l = rw (eq-eqb _ _ e, eq-eqb _ _ f, eq-eqb _ _ g, lt-leb _ _ l)
 
-        pub met-before : getD b (5 * k + 2) 0 ≤ getD b (5 * j + 3) 0 → leb (getD b (5 * j + 2) 0) (getD b (5 * k + 3) 0) ≡ meets b k j
+        pub met-before : getD b (4 * k + 2) 0 ≤ getD b (4 * j + 3) 0 → leb (getD b (4 * j + 2) 0) (getD b (4 * k + 3) 0) ≡ meets b k j
         unfolding meets
         met-before l = rw (eq-eqb _ _ e, eq-eqb _ _ f, eq-eqb _ _ g, le-leb _ _ l)
 

@@ -3,10 +3,10 @@
 --   isKey a hi lo mark j   = row j is that name and mark
 --   above a k j            = row k is above row j, by name, then by mark
 --   walked a hi lo mark n  = the mark that is wanted after n rows: a row of that name and the wanted mark makes the next wanted
---   cell b j c             = number c of row j, in rows of five
+--   cell b j c             = number c of row j, in rows of four
 --   meets b k j            = rows k and j have one name and index, and receivers in common
 --   taken c b k j          = row j is of row k's record, and meets it
-use Prim.Native.Nat.{ℕ, zero, suc, _+_, _*_}
+use Prim.Native.Nat.{ℕ, zero, suc, _+_, _*_, _%_}
 use mathlib.Core.Bool.{Bool, _&&_, _||_}
 use mathlib.Core.List.{List}
 use lib.Dec.{eqb, leb, ltb}
@@ -30,13 +30,13 @@ walked a hi lo mark zero = mark
 walked a hi lo mark (suc n) = let m = walked a hi lo mark n in pick (isKey a hi lo m n) (m + 256) m
 
 abbrev pub cell : List ℕ → ℕ → ℕ → ℕ
-cell b j c = getD b (5 * j + c) 0
+cell b j c = getD b (4 * j + c) 0
 
 unfoldable pub meets : List ℕ → ℕ → ℕ → Bool
 meets b k j =
-    eqb (getD b (5 * k) 0) (getD b (5 * j) 0)
+    eqb (getD b (4 * k) 0) (getD b (4 * j) 0)
     && (eqb (cell b k 1) (cell b j 1)
-    && (eqb (cell b k 4) (cell b j 4) && (leb (cell b k 2) (cell b j 3) && leb (cell b j 2) (cell b k 3))))
+    && (eqb (cell b k 2 % 256) (cell b j 2 % 256) && (leb (cell b k 2) (cell b j 3) && leb (cell b j 2) (cell b k 3))))
 
 unfoldable pub taken : List ℕ → List ℕ → ℕ → ℕ → Bool
 taken c b k j = eqb (getD c j 0) (getD c k 0) && meets b k j

@@ -1,7 +1,7 @@
 // Numbers of lines in arrays, and what is looked for among them. Nothing here knows of files; what the numbers are is said where
 // they are written.
 //   points: row j is three numbers from 3 * j on, a name's two and a mark
-//   reaches: row j is five numbers from 5 * j on, a name's two, the first and last receiver and the index
+//   reaches: row j is four numbers from 4 * j on, a name's two and the marks of the first and last receiver
 ghost use mathlib.Core.Path.{_≡_};
 ghost use Prim.Native.Nat.{_+_, _*_, _≤_, _<_};
 ghost use lib.Dec.{eqb};
@@ -91,29 +91,29 @@ pub fn find_number(a: &[u64], n: usize, v: u64) -> usize
     n
 }
 
-// Rows k and j have one name and index, and receivers in common.
+// Rows k and j have one name and index, and receivers in common. A mark tells its index by its remainder by 256.
 fn meets(b: &[u64], k: usize, j: usize) -> bool
-    requires { ⌜ (5 * k + 4 < length (now b)) × (5 * j + 4 < length (now b)) ⌝ }
+    requires { ⌜ (4 * k + 3 < length (now b)) × (4 * j + 3 < length (now b)) ⌝ }
     ensures value { λ t. ⌜ t ≡ areMet (now (b .entry)) k j ⌝ }
 {
-    if b[5 * k] != b[5 * j] {
+    if b[4 * k] != b[4 * j] {
         return false;
     }
-    if b[5 * k + 1] != b[5 * j + 1] {
+    if b[4 * k + 1] != b[4 * j + 1] {
         return false;
     }
-    if b[5 * k + 4] != b[5 * j + 4] {
+    if b[4 * k + 2] % 256 != b[4 * j + 2] % 256 {
         return false;
     }
-    if b[5 * j + 3] < b[5 * k + 2] {
+    if b[4 * j + 3] < b[4 * k + 2] {
         return false;
     }
-    b[5 * j + 2] <= b[5 * k + 3]
+    b[4 * j + 2] <= b[4 * k + 3]
 }
 
 // Row j is of row k's record, and meets it.
 fn is_taken(c: &[u64], b: &[u64], k: usize, j: usize) -> bool
-    requires { ⌜ ((k < length (now c)) × (j < length (now c))) × ((5 * k + 4 < length (now b)) × (5 * j + 4 < length (now b))) ⌝ }
+    requires { ⌜ ((k < length (now c)) × (j < length (now c))) × ((4 * k + 3 < length (now b)) × (4 * j + 3 < length (now b))) ⌝ }
     ensures value { λ t. ⌜ t ≡ taken (now (c .entry)) (now (b .entry)) k j ⌝ }
 {
     if c[j] != c[k] {
@@ -124,7 +124,7 @@ fn is_taken(c: &[u64], b: &[u64], k: usize, j: usize) -> bool
 
 // The first row before row k of the same record that meets it, or k.
 pub fn find_taken(c: &[u64], b: &[u64], k: usize) -> usize
-    requires { ⌜ (k < length (now c)) × (5 * k + 4 < length (now b)) ⌝ }
+    requires { ⌜ (k < length (now c)) × (4 * k + 3 < length (now b)) ⌝ }
     ensures value { λ j. ⌜ j ≡ least k (taken (now (c .entry)) (now (b .entry)) k) ⌝ }
 {
     let mut j = 0;

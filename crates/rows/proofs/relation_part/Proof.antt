@@ -43,20 +43,20 @@ pack-requires-4 c κs = search needs
 number-at-requires-2 : tie.Need-number-at-requires-2
 number-at-requires-2 c κs = search needs
 
-cast-result : tie.Need-cast-result
-cast-result c = search needs
+index-at-requires-4 : tie.Need-index-at-requires-4
+index-at-requires-4 c κs = search needs
+
+mark-requires-3 : tie.Need-mark-requires-3
+mark-requires-3 c κs = search needs
 
 number-at-requires-3 : tie.Need-number-at-requires-3
 number-at-requires-3 c κs = search needs
 
-cast-result-2 : tie.Need-cast-result-2
-cast-result-2 c = search needs
+index-at-requires-5 : tie.Need-index-at-requires-5
+index-at-requires-5 c κs = search needs
 
-index-at-requires-4 : tie.Need-index-at-requires-4
-index-at-requires-4 c κs = search needs
-
-cast-result-3 : tie.Need-cast-result-3
-cast-result-3 c = search needs
+mark-requires-4 : tie.Need-mark-requires-4
+mark-requires-4 c κs = search needs
 
 channels-requires : tie.Need-channels-requires
 channels-requires c κs = search needs
@@ -84,20 +84,16 @@ returns-6 : tie.Need-returns-6
 returns-6 c = rw (c .before .match2 .keys1) (c .pack4 .ensures ∙ receiver-last _)
 
 returns-7 : tie.Need-returns-7
-unfolding relationRow relation reach numberOf at sps93
-returns-7 c = rw (c .before .match2 .keys2) (c .number-at2 .ensures)
+unfolding relationRow relation reach numberOf indexAt at sps93
+returns-7 c = rw (c .before .before .before .match2 .keys2) (c .mark3 .ensures ∙ ap₂ mark (c .before .before .number-at2 .ensures) (c .before .index-at4 .ensures))
 
 returns-8 : tie.Need-returns-8
-unfolding relationRow relation reach numberOf at sps93
-returns-8 c = rw (c .before .match2 .keys3) (c .number-at3 .ensures)
+unfolding relationRow relation reach numberOf indexAt at sps93
+returns-8 c = rw (c .before .before .before .match2 .keys3) (c .mark4 .ensures ∙ ap₂ mark (c .before .before .number-at3 .ensures) (c .before .index-at5 .ensures))
 
 returns-9 : tie.Need-returns-9
-unfolding relationRow relation reach indexAt at sps93
-returns-9 c = rw (c .before .match2 .keys4) (c .index-at4 .ensures)
-
-returns-10 : tie.Need-returns-10
-returns-10 c =
-    let e : c .before .before .before .args .c ≡ 9 = omega arith in
+returns-9 c =
+    let e : c .before .before .before .args .c ≡ 8 = omega arith in
     rw e (c .channels .ensures)
 
 pub relation-part-spec : {M : Type 1} → statement M
@@ -115,11 +111,11 @@ relation-part-spec =
     pack-requires-3
     pack-requires-4
     number-at-requires-2
-    cast-result
-    number-at-requires-3
-    cast-result-2
     index-at-requires-4
-    cast-result-3
+    mark-requires-3
+    number-at-requires-3
+    index-at-requires-5
+    mark-requires-4
     channels-requires
     returns
     returns-2
@@ -129,5 +125,4 @@ relation-part-spec =
     returns-6
     returns-7
     returns-8
-    returns-9
-    returns-10)
+    returns-9)

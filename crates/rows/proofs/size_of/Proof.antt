@@ -30,7 +30,7 @@ returns c = rw (c .enum-told .given .1) (ap (λ (n : ℕ). 3 * n) (c .before .be
 
 returns-2 : tie.Need-returns-2
 unfolding sizeOf
-returns-2 c = rw (c .enum-told2 .given .1) (ap (λ (n : ℕ). 5 * n) (c .before .before .line-count .ensures))
+returns-2 c = rw (c .enum-told2 .given .1) (ap (λ (n : ℕ). 4 * n) (c .before .before .line-count .ensures))
 
 returns-3 : tie.Need-returns-3
 unfolding sizeOf

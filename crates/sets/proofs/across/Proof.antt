@@ -18,7 +18,7 @@ slice-aggregate-read-4 : tie.Need-slice-aggregate-read-4
 slice-aggregate-read-4 c = search needs
 
 read-requires : tie.Need-read-requires
-read-requires c κs = (c .before .before .before .before .before .before .before .pre, (length-replicate {A = ℕ} 29997 0, (length-replicate {A = ℕ} 49995 0, (length-replicate {A = ℕ} 9999 0, length-replicate {A = ℕ} 9999 0))))
+read-requires c κs = (c .before .before .before .before .before .before .before .pre, (length-replicate {A = ℕ} 29997 0, (length-replicate {A = ℕ} 39996 0, (length-replicate {A = ℕ} 9999 0, length-replicate {A = ℕ} 9999 0))))
 
 returns : tie.Need-returns
 returns c = search needs
