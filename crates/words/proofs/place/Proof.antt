@@ -1,0 +1,26 @@
+-- `words::place` meets its contract. Assumes nothing.
+use borrow.Author.Needs.{needs}
+use borrow.Author.Tests.{lt-leb}
+use Rattle.rules.specs.Places.{pick}
+use Rattle.words.specs.Buffer.{over}
+use Rattle.words.proofs.Adding.{over-is}
+use Rattle.words.proofs.place.Statement.{statement}
+use Rattle.words.proofs.place.Tie as tie
+
+returns : tie.Need-returns
+unfolding over pick
+returns c = rw (lt-leb _ _ (c .if1 .taken))
+
+add-requires : tie.Need-add-requires
+add-requires c κs = search needs
+
+same-length : tie.Need-same-length
+same-length c = search needs
+
+returns-2 : tie.Need-returns-2
+returns-2 c =
+    let a = c .before .before .before .before .before .before .before .args in
+    over-is (a .out .now) (a .p .now) (c .before .before .add .last .1 .0) (c .before .before .add .result) (c .before .before .before .before .if1 .left) (c .before .before .add .ensures)
+
+pub place-spec : {M : Type 1} → statement M
+place-spec = tie.close (tie.spec returns add-requires same-length returns-2)

@@ -1,0 +1,29 @@
+-- "It prints one line": what the program says of a set or of a file, as bytes.
+--   row w a b c d   = a word and four values, a blank before each, and a line feed
+--   line a          = the line of an answer to the set check; none of another answer
+--   noFile i        = the line of file i where it is missing
+--   tooLong i       = the line of file i where it is above the buffer
+use Prim.Native.Nat.{ℕ}
+use mathlib.Core.List.{List, [], _∷_, _++_}
+use Rattle.rules.specs.Text.{bytes}
+use Rattle.rules.specs.Lines.{letter}
+use Rattle.rules.specs.Plan.{№}
+use Rattle.rules.specs.Check.{Answer, accepted, refusal, trace, channel, highest, noTrace}
+use Rattle.words.specs.Digits.{decimal}
+
+unfoldable pub row : List ℕ → List ℕ → List ℕ → List ℕ → List ℕ → List ℕ
+row w a b c d = w ++ ((32 ∷ a) ++ ((32 ∷ b) ++ ((32 ∷ c) ++ ((32 ∷ d) ++ (10 ∷ [])))))
+
+unfoldable pub line : Answer → List ℕ
+line (accepted r s x t) = row (bytes "ACCEPTED") (decimal r) (decimal s) (decimal x) (decimal t)
+line (refusal (№ n f l c)) = row (bytes "REFUSED") (decimal n) (letter f ∷ []) (decimal l) (decimal c)
+line (trace l m) = []
+line (channel c) = []
+line (highest c) = []
+line noTrace = []
+
+unfoldable pub noFile : ℕ → List ℕ
+noFile i = bytes "NO FILE " ++ (letter i ∷ 10 ∷ [])
+
+unfoldable pub tooLong : ℕ → List ℕ
+tooLong i = bytes "TOO LONG " ++ (letter i ∷ 10 ∷ [])

@@ -1,0 +1,131 @@
+// The program's line: what it says of a set or of a file that cannot be used, as bytes in the first places of a lent buffer. Where the
+// line has no room nothing is written; the answer is its length in either case. A line is made in an array of the call, then put over.
+ghost use mathlib.Core.Path.{_≡_};
+ghost use Prim.Native.Nat.{_≤_};
+ghost use mathlib.Core.List.{_∷_, []};
+ghost use lib.ListN.{length};
+ghost use Rattle.rules.specs.Text.{bytes};
+ghost use Rattle.rules.specs.Lines.{letter as letterOf};
+ghost use Rattle.sets.specs.Paper.{paper};
+ghost use Rattle.words.specs.Digits.{decimal};
+ghost use Rattle.words.specs.Words.{row as rowOf, line as lineOf, noFile, tooLong};
+ghost use Rattle.words.specs.Buffer.{over, Adds};
+use sets::Answer;
+
+mod text;
+
+// Puts a part into the first places of out, where it has room.
+pub fn place(p: &[u8], out: &mut [u8])
+    ensures written { λ _. ⌜ now (out .exit) ≡ over (now (p .entry)) (now (out .entry)) ⌝ }
+{
+    if out.len() < p.len() {
+        return;
+    }
+    text::add(p, out, 0);
+}
+
+// The letter of file i.
+fn letter(i: u8) -> u8
+    ensures value { λ b. ⌜ b ≡ letterOf i ⌝ }
+{
+    if i == 1 {
+        return b'R';
+    }
+    if i == 2 {
+        return b'S';
+    }
+    b'X'
+}
+
+// The line of an accepted set.
+fn accepted(r: u64, s: u64, x: u64, t: u64, line: &mut [u8; 96]) -> usize
+    ensures added { λ n. ⌜ Adds (now (line .entry)) 0 (rowOf (bytes "ACCEPTED") (decimal r) (decimal s) (decimal x) (decimal t)) (now (line .exit)) n ⌝ }
+    ensures small { λ n. ⌜ n ≤ 93 ⌝ }
+{
+    let a = text::add(b"ACCEPTED", line, 0);
+    let b = text::number(r, line, a);
+    let c = text::number(s, line, b);
+    let d = text::number(x, line, c);
+    let e = text::number(t, line, d);
+    text::byte(b'\n', line, e)
+}
+
+// The line of a refused set.
+fn refused(n: u8, f: u8, l: u32, c: u8, line: &mut [u8; 96]) -> usize
+    ensures added { λ m. ⌜ Adds (now (line .entry)) 0 (rowOf (bytes "REFUSED") (decimal n) (letterOf f ∷ []) (decimal l) (decimal c)) (now (line .exit)) m ⌝ }
+    ensures small { λ m. ⌜ m ≤ 93 ⌝ }
+{
+    let a = text::add(b"REFUSED", line, 0);
+    let b = text::number(n as u64, line, a);
+    let file = [b' ', letter(f)];
+    let d = text::add(&file, line, b);
+    let e = text::number(l as u64, line, d);
+    let g = text::number(c as u64, line, e);
+    text::byte(b'\n', line, g)
+}
+
+// The line of an answer to the set check.
+fn spell(a: Answer, line: &mut [u8; 96]) -> usize
+    ensures added { λ n. ⌜ Adds (now (line .entry)) 0 (lineOf (paper a)) (now (line .exit)) n ⌝ }
+    ensures small { λ n. ⌜ n ≤ 93 ⌝ }
+{
+    match a {
+        Answer::Accepted(r, s, x, t) => accepted(r, s, x, t, line),
+        Answer::Refused(n, f, l, c) => refused(n, f, l, c, line),
+    }
+}
+
+// Says the verdict on a set.
+pub fn verdict(a: Answer, out: &mut [u8]) -> usize
+    ensures value { λ n. ⌜ n ≡ length (lineOf (paper a)) ⌝ }
+    ensures written { λ _. ⌜ now (out .exit) ≡ over (lineOf (paper a)) (now (out .entry)) ⌝ }
+    ensures small { λ n. ⌜ n ≤ 93 ⌝ }
+{
+    let mut line = [0u8; 96];
+    let n = spell(a, &mut line);
+    place(&line[..n], out);
+    n
+}
+
+// Says that file i is missing.
+pub fn no_file(i: u8, out: &mut [u8]) -> usize
+    ensures value { λ n. ⌜ n ≡ length (noFile i) ⌝ }
+    ensures written { λ _. ⌜ now (out .exit) ≡ over (noFile i) (now (out .entry)) ⌝ }
+{
+    let line = [
+        b'N',
+        b'O',
+        b' ',
+        b'F',
+        b'I',
+        b'L',
+        b'E',
+        b' ',
+        letter(i),
+        b'\n',
+    ];
+    place(&line, out);
+    line.len()
+}
+
+// Says that file i is too long.
+pub fn too_long(i: u8, out: &mut [u8]) -> usize
+    ensures value { λ n. ⌜ n ≡ length (tooLong i) ⌝ }
+    ensures written { λ _. ⌜ now (out .exit) ≡ over (tooLong i) (now (out .entry)) ⌝ }
+{
+    let line = [
+        b'T',
+        b'O',
+        b'O',
+        b' ',
+        b'L',
+        b'O',
+        b'N',
+        b'G',
+        b' ',
+        letter(i),
+        b'\n',
+    ];
+    place(&line, out);
+    line.len()
+}
