@@ -8,6 +8,7 @@
 
 mod case;
 mod examples;
+mod folders;
 mod line;
 mod random;
 mod set;
@@ -15,6 +16,7 @@ mod table;
 
 pub use case::{Answer, Case, Question, STAYS};
 pub use examples::{examples, Example};
+pub use folders::{folders, one_fault, two_faults, Folder, OneFault, TwoFaults};
 pub use line::{header, marker, receiver, relation, shot, Line};
 pub use random::Random;
 pub use set::{headers_only, set_a, File, Set};

@@ -39,11 +39,23 @@ pub fn unnamed_shot() -> Set {
     set_a().add(S, shot(502))
 }
 
+pub fn increment_2() -> Set {
+    set_a().edit(X, 22, |x| x.increment("2"))
+}
+
+pub fn leading_zeros() -> Set {
+    set_a().put(X, 22, 30, "00000501")
+}
+
+pub fn channel_again() -> Set {
+    set_a().add(X, relation().channels(3, 3).receivers(103, 103))
+}
+
+pub fn r_of_81_bytes() -> Set {
+    set_a().cut(R, 81)
+}
+
 pub fn cases() -> Vec<Case> {
-    let increment_2 = set_a().edit(X, 22, |x| x.increment("2"));
-    let leading_zeros = set_a().put(X, 22, 30, "00000501");
-    let again_3 = set_a().add(X, relation().channels(3, 3).receivers(103, 103));
-    let r_of_81 = set_a().cut(R, 81);
     vec![
         check("none", set_a(), as_a()),
         ask("none, channel 2 (p)", set_a(), trace(2), comes_from(23, 1)),
@@ -56,7 +68,7 @@ pub fn cases() -> Vec<Case> {
             comes_from(23, 3),
         ),
         check("channels 1-4 (p)", odd_channel(), refused(6, X, 22, 72)),
-        check("increment 2 (p)", increment_2, refused(6, X, 22, 47)),
+        check("increment 2 (p)", increment_2(), refused(6, X, 22, 47)),
         check("channels 1-4, receivers 101-104 (p)", missing_receiver(), refused(18, X, 22, 64)),
         check("R points 101, 103, 102 (p)", unsorted_receivers(), refused(10, R, 24, 2)),
         check(
@@ -64,12 +76,16 @@ pub fn cases() -> Vec<Case> {
             other_blanks(),
             refused(18, X, 22, 64),
         ),
-        check("X source point 00000501 (p)", leading_zeros, as_a()),
+        check("X source point 00000501 (p)", leading_zeros(), as_a()),
         check("X source name moved one column right", moved_name(), refused(5, X, 22, 14)),
-        check("a second X line, channels 3-3, receiver 103 (p)", again_3, refused(17, X, 23, 39)),
+        check(
+            "a second X line, channels 3-3, receiver 103 (p)",
+            channel_again(),
+            refused(17, X, 23, 39),
+        ),
         check("the same, channels 4-4 (p)", covered_twice(), refused(19, X, 23, 64)),
         check("a second shot 502, same time", unnamed_shot(), refused(15, S, 23, 1)),
-        check("R of 81 bytes", r_of_81, refused(1, R, 1, 0)),
+        check("R of 81 bytes", r_of_81_bytes(), refused(1, R, 1, 0)),
         check("headers only", headers_only(), accepted(0, 0, 0, 0)),
     ]
 }

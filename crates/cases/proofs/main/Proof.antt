@@ -1,0 +1,63 @@
+-- `cases::main` meets its contract. Assumes nothing.
+use Prim.Native.Nat.{ℕ, _≤_}
+use mathlib.Core.Path.{_≡_, sym}
+use native.Mathlib.Omega.{arith}
+use lib.Seq.{length-take-le}
+use borrow.Author.Needs.{needs}
+use Rattle.cases.proofs.main.Statement.{statement}
+use Rattle.cases.proofs.main.Tie as tie
+use Rattle.files.specs.declared.Input.{Input}
+use Rattle.files.specs.declared.Input.the-variants.{Bytes}
+use Rattle.files.specs.Report.{sizeOf}
+
+within : (i : Input) (n m : ℕ) → i ≡ Bytes n → sizeOf i ≤ m → n ≤ m
+within i n m e h = rw e at h
+
+buffer-requires : tie.Need-buffer-requires
+buffer-requires c κs = search needs
+
+slice-aggregate-load : tie.Need-slice-aggregate-load
+slice-aggregate-load c = search needs
+
+slice-aggregate-load-2 : tie.Need-slice-aggregate-load-2
+slice-aggregate-load-2 c = search needs
+
+load-requires : tie.Need-load-requires
+load-requires c κs = search needs
+
+enum-known-n : tie.Need-enum-known-n
+enum-known-n c = search needs
+
+array-share-prefix-names : tie.Need-array-share-prefix-names
+array-share-prefix-names c =
+    let t = c .before .before .before .before .load in
+    omega (arith, within (t .result) _ _ (c .before .n .given .1) (t .ensures), t .kept .1 .0)
+
+slice-aggregate-each : tie.Need-slice-aggregate-each
+slice-aggregate-each c =
+    let t = c .before .before .before .before .before .load in
+    sym (length-take-le _ (t .last .1 .0) (omega (arith, within (t .result) _ _ (c .before .before .n .given .1) (t .ensures), t .kept .1 .0)))
+
+each-requires : tie.Need-each-requires
+each-requires c κs = search needs
+
+returns : tie.Need-returns
+returns c = search needs
+
+returns-2 : tie.Need-returns-2
+returns-2 c = search needs
+
+pub main-spec : {M : Type 1} → statement M
+main-spec =
+    tie.close
+    (tie.spec
+    buffer-requires
+    slice-aggregate-load
+    slice-aggregate-load-2
+    load-requires
+    enum-known-n
+    array-share-prefix-names
+    slice-aggregate-each
+    each-requires
+    returns
+    returns-2)

@@ -1,0 +1,66 @@
+// The sets of the folders that the file `names` lists, a name to a line: for each its name, a blank and the line that `spschk` prints
+// in it. Every refusal number of the set check has a folder but 2, whose 10,000 lines are above the buffer.
+ghost use mathlib.Core.Path.{_≡_};
+ghost use Prim.Native.Nat.{_≤_};
+ghost use lib.ListN.{length};
+use files::Input;
+use libc::STDOUT_FILENO;
+
+// Where the line ends that begins at n.
+fn end(names: &[u8], n: usize) -> usize
+    requires { ⌜ n ≤ length (now names) ⌝ }
+    ensures within { λ e. ⌜ (n ≤ e) × (e ≤ length (now (names .entry))) ⌝ }
+{
+    let mut e = n;
+    while e < names.len() {
+        if names[e] == b'\n' {
+            return e;
+        }
+        e += 1;
+    }
+    e
+}
+
+// The path of a file in a folder, at the start of out; empty where the folder's name is too long.
+fn path(folder: &[u8], file: &[u8; 8], out: &mut [u8]) -> usize
+    requires { ⌜ length (now out) ≡ 64 ⌝ }
+    ensures small { λ n. ⌜ n ≤ 64 ⌝ }
+{
+    let n = folder.len();
+    if 56 < n {
+        return 0;
+    }
+    words::place(folder, out);
+    words::place(file, &mut out[n..]);
+    n + 8
+}
+
+// The line of one folder.
+fn one(folder: &[u8]) {
+    let mut r = [0u8; 64];
+    let mut s = [0u8; 64];
+    let mut x = [0u8; 64];
+    let a = path(folder, b"/set.r01", &mut r);
+    let b = path(folder, b"/set.s01", &mut s);
+    let c = path(folder, b"/set.x01", &mut x);
+    io::write_all(STDOUT_FILENO, folder);
+    io::write_all(STDOUT_FILENO, b" ");
+    files::print(&r[..a], &s[..b], &x[..c]);
+}
+
+// The lines of all folders.
+fn each(names: &[u8]) {
+    let mut n = 0;
+    while n < names.len() {
+        let e = end(names, n);
+        one(&names[n..e]);
+        n = e + 1;
+    }
+}
+
+fn main() {
+    let mut names = io::buffer();
+    if let Input::Bytes(n) = files::load(b"names", &mut names) {
+        each(&names[..n]);
+    }
+}
