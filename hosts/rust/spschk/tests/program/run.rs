@@ -1,0 +1,88 @@
+//! The program, made where it is missing or older than the crates, and run in
+//! folders of cargo's temporary folder.
+
+use small_sets::{File, Set};
+use std::path::{Path, PathBuf};
+use std::process::Command;
+use std::sync::OnceLock;
+use std::time::SystemTime;
+use std::{fs, io};
+
+fn program() -> &'static Path {
+    static PROGRAM: OnceLock<PathBuf> = OnceLock::new();
+    PROGRAM.get_or_init(|| {
+        let root = fs::canonicalize(spschk::root()).expect("a repository");
+        let program = root.join("target/bin/spschk");
+        let sources = [root.join("crates"), root.join("crates.txt")];
+        let newest = sources.iter().map(|path| newest(path).expect("the crates")).max();
+        let made = fs::metadata(&program).and_then(|program| program.modified()).ok();
+        if made.is_none() || made < newest {
+            let status = Command::new("rt").args(["check", "spschk"]).current_dir(&root).status();
+            let status = status.expect("rt, the Rattle toolchain, is on the path");
+            assert!(status.success(), "`rt check spschk` ended with {status}");
+        }
+        program
+    })
+}
+
+/// When a file, or anything below a folder, last changed.
+fn newest(path: &Path) -> io::Result<SystemTime> {
+    let metadata = fs::metadata(path)?;
+    let mut last = metadata.modified()?;
+    if metadata.is_dir() {
+        for entry in fs::read_dir(path)? {
+            last = last.max(newest(&entry?.path())?);
+        }
+    }
+    Ok(last)
+}
+
+/// A folder that the program is run in.
+pub struct Folder(PathBuf);
+
+impl Folder {
+    /// An empty folder of that name.
+    pub fn empty(name: &str) -> Folder {
+        let path = Path::new(env!("CARGO_TARGET_TMPDIR")).join("spschk").join(name);
+        if path.exists() {
+            fs::remove_dir_all(&path).expect("the folder of an earlier run");
+        }
+        fs::create_dir_all(&path).expect("a folder");
+        Folder(path)
+    }
+
+    /// A folder with a set.
+    pub fn of(name: &str, set: &Set) -> Folder {
+        let folder = Folder::empty(name);
+        for file in File::ALL {
+            fs::write(folder.path(file), set.file(file)).expect("a file");
+        }
+        folder
+    }
+
+    /// Where a file of the set stands.
+    pub fn path(&self, file: File) -> PathBuf {
+        self.0.join(format!("set.{}01", file.letter().to_lowercase()))
+    }
+
+    /// The folder without a file.
+    pub fn without(self, file: File) -> Folder {
+        fs::remove_file(self.path(file)).expect("a file to remove");
+        self
+    }
+
+    /// The folder with a link in place of a file.
+    pub fn link(self, file: File, to: &str) -> Folder {
+        let folder = self.without(file);
+        std::os::unix::fs::symlink(to, folder.path(file)).expect("a link");
+        folder
+    }
+
+    /// What the program prints; it always ends well, with nothing on standard error.
+    pub fn says(&self) -> String {
+        let output = Command::new(program()).current_dir(&self.0).output().expect("a run");
+        assert!(output.status.success(), "{}: {}", self.0.display(), output.status);
+        assert_eq!(output.stderr, b"", "{}", self.0.display());
+        String::from_utf8(output.stdout).expect("a line of text")
+    }
+}
