@@ -1,0 +1,8 @@
+//! Links the proved calls, `libsps.a`.
+
+#[path = "../archive.rs"]
+mod archive;
+
+fn main() {
+    archive::link("sps");
+}

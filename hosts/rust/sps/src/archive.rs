@@ -1,0 +1,157 @@
+//! The calls of `libsps.a` on slices of Rust: the one place that is `unsafe`.
+//!
+//! `include/sps.h` says what the calls ask: each pointer and length name memory that
+//! is there and stays as it is for the call, and memory that is written overlaps
+//! nothing else. References of Rust are that. The calls are proved to read and write
+//! no other memory, and keep no pointer.
+#![allow(unsafe_code)]
+
+/// R, S and X.
+pub type Files<'a> = [&'a [u8]; 3];
+
+mod c {
+    unsafe extern "C" {
+        pub fn sps_check(
+            r: *const u8,
+            r_len: usize,
+            s: *const u8,
+            s_len: usize,
+            x: *const u8,
+            x_len: usize,
+        ) -> u64;
+        pub fn sps_counts(
+            r: *const u8,
+            r_len: usize,
+            s: *const u8,
+            s_len: usize,
+            x: *const u8,
+            x_len: usize,
+            counts: *mut u64,
+        ) -> u64;
+        pub fn sps_trace(
+            r: *const u8,
+            r_len: usize,
+            s: *const u8,
+            s_len: usize,
+            x: *const u8,
+            x_len: usize,
+            tape: *const u8,
+            tape_len: usize,
+            record: u64,
+            channel: u64,
+        ) -> u64;
+        pub fn sps_channel(
+            r: *const u8,
+            r_len: usize,
+            s: *const u8,
+            s_len: usize,
+            x: *const u8,
+            x_len: usize,
+            tape: *const u8,
+            tape_len: usize,
+            record: u64,
+            r_line: u64,
+            component: u64,
+        ) -> u64;
+        pub fn sps_spread(
+            r: *const u8,
+            r_len: usize,
+            s: *const u8,
+            s_len: usize,
+            x: *const u8,
+            x_len: usize,
+            tape: *const u8,
+            tape_len: usize,
+            record: u64,
+            lines: *mut u8,
+            lines_len: usize,
+            components: *mut u8,
+            components_len: usize,
+        ) -> u64;
+    }
+}
+
+pub fn check([r, s, x]: Files) -> u64 {
+    // SAFETY: each pointer and length are those of one slice.
+    unsafe { c::sps_check(r.as_ptr(), r.len(), s.as_ptr(), s.len(), x.as_ptr(), x.len()) }
+}
+
+pub fn counts([r, s, x]: Files, counts: &mut [u64; 4]) -> u64 {
+    let counts = counts.as_mut_ptr();
+    // SAFETY: each pointer and length are those of one slice, and `counts` has four
+    // places that are lent alone.
+    unsafe { c::sps_counts(r.as_ptr(), r.len(), s.as_ptr(), s.len(), x.as_ptr(), x.len(), counts) }
+}
+
+pub fn trace([r, s, x]: Files, tape: &[u8], record: u64, channel: u64) -> u64 {
+    // SAFETY: each pointer and length are those of one slice.
+    unsafe {
+        c::sps_trace(
+            r.as_ptr(),
+            r.len(),
+            s.as_ptr(),
+            s.len(),
+            x.as_ptr(),
+            x.len(),
+            tape.as_ptr(),
+            tape.len(),
+            record,
+            channel,
+        )
+    }
+}
+
+pub fn channel([r, s, x]: Files, tape: &[u8], record: u64, r_line: u64, component: u64) -> u64 {
+    // SAFETY: each pointer and length are those of one slice.
+    unsafe {
+        c::sps_channel(
+            r.as_ptr(),
+            r.len(),
+            s.as_ptr(),
+            s.len(),
+            x.as_ptr(),
+            x.len(),
+            tape.as_ptr(),
+            tape.len(),
+            record,
+            r_line,
+            component,
+        )
+    }
+}
+
+pub fn spread(
+    [r, s, x]: Files,
+    tape: &[u8],
+    record: u64,
+    lines: &mut [u8],
+    components: &mut [u8],
+) -> u64 {
+    // SAFETY: each pointer and length are those of one slice, and both slices that
+    // are written are lent alone.
+    unsafe {
+        c::sps_spread(
+            r.as_ptr(),
+            r.len(),
+            s.as_ptr(),
+            s.len(),
+            x.as_ptr(),
+            x.len(),
+            tape.as_ptr(),
+            tape.len(),
+            record,
+            lines.as_mut_ptr(),
+            lines.len(),
+            components.as_mut_ptr(),
+            components.len(),
+        )
+    }
+}
+
+/// The bytes that 16-bit numbers stand in.
+pub fn bytes_of(numbers: &mut [u16]) -> &mut [u8] {
+    let (bytes, length) = (numbers.as_mut_ptr().cast(), size_of_val(numbers));
+    // SAFETY: the memory of the numbers, for as long as they are lent; bytes need no
+    // alignment, and any two bytes are a number.
+    unsafe { std::slice::from_raw_parts_mut(bytes, length) }
+}

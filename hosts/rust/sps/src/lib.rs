@@ -1,0 +1,39 @@
+//! The proved checker of SPS sets, for Rust.
+//!
+//! An SPS set is three files: receivers R, shots S and relations X, lines of 80
+//! columns. [`Set::check`] accepts a set with its counts, or refuses it with the
+//! first breach of the paper's rules. [`Set::record`] asks where the traces of a
+//! record come from.
+//!
+//! ```
+//! # let read = |name| std::fs::read(format!("../../../examples/set_a/{name}"));
+//! # let (r, s, x) = (read("set.r01")?, read("set.s01")?, read("set.x01")?);
+//! let set = sps::Set::new(&r, &s, &x);
+//! assert_eq!(set.check()?.to_string(), "ACCEPTED 3 1 1 3");
+//!
+//! let record = set.record(b"100   ", 11);
+//! let trace = record.channel(2)?.expect("a trace");
+//! assert_eq!((trace.r_line, trace.component), (23, 1));
+//! assert_eq!(record.receiver(trace.r_line, trace.component)?, Some(2));
+//! # Ok::<(), Box<dyn std::error::Error>>(())
+//! ```
+//!
+//! The calls are those of `libsps.a`, which are proved to meet the paper for every
+//! input; here their numbers get names. Files are lent and never copied, no call
+//! panics, and each takes less than 1 MB of stack. Calls share nothing, so they may
+//! run at the same time. Numbers are `u64`, as the calls have them: a question is
+//! judged whole, and out of range it is refused ([`Number::QuestionRange`]).
+
+#![deny(unsafe_code)]
+#![warn(missing_docs)]
+
+mod archive;
+mod number;
+mod record;
+mod refusal;
+mod set;
+
+pub use number::Number;
+pub use record::{Record, Trace};
+pub use refusal::{File, Refusal};
+pub use set::{Accepted, Set};

@@ -1,0 +1,111 @@
+//! Questions on a record of a set: the lookup, the way back, the spread table.
+
+use crate::archive::{self, Files};
+use crate::refusal::answer;
+use crate::Refusal;
+
+/// A record of a set. Each of its questions checks the set itself: a question out of
+/// range is refused first (20), then the set (1 to 19).
+///
+/// ```
+/// # let read = |name| std::fs::read(format!("../../../examples/set_a/{name}"));
+/// # let (r, s, x) = (read("set.r01")?, read("set.s01")?, read("set.x01")?);
+/// let record = sps::Set::new(&r, &s, &x).record(b"100   ", 11);
+/// assert_eq!(record.channel(0).unwrap_err().number, sps::Number::QuestionRange);
+/// # Ok::<(), std::io::Error>(())
+/// ```
+#[derive(Clone, Copy)]
+pub struct Record<'a> {
+    files: Files<'a>,
+    tape: &'a [u8],
+    record: u64,
+}
+
+/// Where a trace comes from.
+///
+/// ```
+/// let trace = sps::Trace { r_line: 23, component: 1 };
+/// assert_eq!(format!("{trace:?}"), "Trace { r_line: 23, component: 1 }");
+/// ```
+#[derive(Clone, Copy, Debug, PartialEq, Eq, Hash)]
+pub struct Trace {
+    /// The line of its receiver in R, headers included.
+    pub r_line: u64,
+    /// Its component, from 1.
+    pub component: u64,
+}
+
+impl<'a> Record<'a> {
+    pub(crate) fn new(files: Files<'a>, tape: &'a [u8], record: u64) -> Record<'a> {
+        Record { files, tape, record }
+    }
+
+    /// The receiver that a channel leads to; `None` is no trace.
+    ///
+    /// ```
+    /// # let read = |name| std::fs::read(format!("../../../examples/three_components/{name}"));
+    /// # let (r, s, x) = (read("set.r01")?, read("set.s01")?, read("set.x01")?);
+    /// let record = sps::Set::new(&r, &s, &x).record(b"100   ", 11);
+    /// assert_eq!(record.channel(6)?, Some(sps::Trace { r_line: 23, component: 3 }));
+    /// assert_eq!(record.channel(10)?, None);
+    /// # Ok::<(), Box<dyn std::error::Error>>(())
+    /// ```
+    pub fn channel(&self, channel: u64) -> Result<Option<Trace>, Refusal> {
+        let packed = answer(archive::trace(self.files, self.tape, self.record, channel))?;
+        Ok((packed != 0).then_some(Trace { r_line: packed >> 4, component: packed & 15 }))
+    }
+
+    /// The channel that leads to a line of R and a component; `None` is no trace,
+    /// also where the line is a header, a marker or beyond the file.
+    ///
+    /// ```
+    /// # let read = |name| std::fs::read(format!("../../../examples/three_components/{name}"));
+    /// # let (r, s, x) = (read("set.r01")?, read("set.s01")?, read("set.x01")?);
+    /// let record = sps::Set::new(&r, &s, &x).record(b"100   ", 11);
+    /// assert_eq!(record.receiver(23, 3)?, Some(6));
+    /// assert_eq!(record.receiver(1, 1)?, None);
+    /// # Ok::<(), Box<dyn std::error::Error>>(())
+    /// ```
+    pub fn receiver(&self, r_line: u64, component: u64) -> Result<Option<u64>, Refusal> {
+        let (tape, record) = (self.tape, self.record);
+        let channel = answer(archive::channel(self.files, tape, record, r_line, component))?;
+        Ok((channel != 0).then_some(channel))
+    }
+
+    /// The spread table: place c-1 takes the R line and the component of channel c,
+    /// or 0 and 0 where it is not covered, up to the highest covered channel, which
+    /// is the answer. Later places stay. An absent record answers 0 and writes
+    /// nothing, and so does a refusal, also that of a slice too short (21).
+    ///
+    /// ```
+    /// # let read = |name| std::fs::read(format!("../../../examples/set_a/{name}"));
+    /// # let (r, s, x) = (read("set.r01")?, read("set.s01")?, read("set.x01")?);
+    /// let record = sps::Set::new(&r, &s, &x).record(b"100   ", 11);
+    /// let (mut lines, mut components) = ([9; 4], [9; 4]);
+    /// assert_eq!(record.spread(&mut lines, &mut components)?, 3);
+    /// assert_eq!((lines, components), ([22, 23, 24, 9], [1, 1, 1, 9]));
+    /// # Ok::<(), Box<dyn std::error::Error>>(())
+    /// ```
+    pub fn spread(&self, lines: &mut [u16], components: &mut [u8]) -> Result<u64, Refusal> {
+        let highest = self.spread_bytes(archive::bytes_of(lines), components)?;
+        // The low byte of a place comes first, whatever the machine has.
+        lines.iter_mut().zip(0..highest).for_each(|(place, _)| *place = u16::from_le(*place));
+        Ok(highest)
+    }
+
+    /// The spread table with each line as two bytes, the low one first. An odd last
+    /// byte is no place and stays.
+    ///
+    /// ```
+    /// # let read = |name| std::fs::read(format!("../../../examples/set_a/{name}"));
+    /// # let (r, s, x) = (read("set.r01")?, read("set.s01")?, read("set.x01")?);
+    /// let record = sps::Set::new(&r, &s, &x).record(b"100   ", 11);
+    /// let (mut lines, mut components) = ([9; 7], [9; 3]);
+    /// assert_eq!(record.spread_bytes(&mut lines, &mut components)?, 3);
+    /// assert_eq!((lines, components), ([22, 0, 23, 0, 24, 0, 9], [1, 1, 1]));
+    /// # Ok::<(), Box<dyn std::error::Error>>(())
+    /// ```
+    pub fn spread_bytes(&self, lines: &mut [u8], components: &mut [u8]) -> Result<u64, Refusal> {
+        answer(archive::spread(self.files, self.tape, self.record, lines, components))
+    }
+}

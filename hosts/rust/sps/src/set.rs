@@ -1,0 +1,105 @@
+//! A set, and its check.
+
+use crate::archive::{self, Files};
+use crate::refusal::answer;
+use crate::{Record, Refusal};
+use std::fmt;
+
+/// Three lent files, not checked yet.
+///
+/// ```
+/// # let read = |name| std::fs::read(format!("../../../examples/odd_channel/{name}"));
+/// # let (r, s, x) = (read("set.r01")?, read("set.s01")?, read("set.x01")?);
+/// let set = sps::Set::new(&r, &s, &x);
+/// match set.check() {
+///     Ok(accepted) => println!("{} traces", accepted.traces),
+///     Err(refusal) => println!("{refusal}: {}", refusal.number),
+/// }
+/// # Ok::<(), std::io::Error>(())
+/// ```
+#[derive(Clone, Copy)]
+pub struct Set<'a> {
+    files: Files<'a>,
+}
+
+/// What an accepted set holds. Shown, it is the verdict line of the program.
+///
+/// ```
+/// # use sps::Accepted;
+/// let accepted = Accepted { receivers: 3, shots: 1, relations: 1, traces: 3 };
+/// assert_eq!(accepted.to_string(), "ACCEPTED 3 1 1 3");
+/// ```
+#[derive(Clone, Copy, Debug, PartialEq, Eq, Hash)]
+pub struct Accepted {
+    /// Lines of R that are receivers.
+    pub receivers: u64,
+    /// Lines of S that are shots.
+    pub shots: u64,
+    /// Relation lines.
+    pub relations: u64,
+    /// Channels of all relation lines.
+    pub traces: u64,
+}
+
+impl<'a> Set<'a> {
+    /// A set of three files, R, S and X, of any bytes.
+    ///
+    /// ```
+    /// assert!(sps::Set::new(b"", b"", b"").check().is_err());
+    /// ```
+    pub fn new(r: &'a [u8], s: &'a [u8], x: &'a [u8]) -> Set<'a> {
+        Set { files: [r, s, x] }
+    }
+
+    /// Checks the set: what it holds, or the first breach of the rules 1 to 19.
+    ///
+    /// ```
+    /// # let read = |name| std::fs::read(format!("../../../examples/set_a/{name}"));
+    /// # let (r, s, x) = (read("set.r01")?, read("set.s01")?, read("set.x01")?);
+    /// let accepted = sps::Set::new(&r, &s, &x).check()?;
+    /// assert_eq!((accepted.receivers, accepted.traces), (3, 3));
+    /// let refusal = sps::Set::new(&r, &s, &r).check().unwrap_err();
+    /// assert_eq!(refusal.to_string(), "REFUSED 4 X 22 1");
+    /// # Ok::<(), Box<dyn std::error::Error>>(())
+    /// ```
+    pub fn check(&self) -> Result<Accepted, Refusal> {
+        let mut counts = [0; 4];
+        answer(archive::counts(self.files, &mut counts))?;
+        let [receivers, shots, relations, traces] = counts;
+        Ok(Accepted { receivers, shots, relations, traces })
+    }
+
+    /// Checks the set, and answers its number of traces alone.
+    ///
+    /// ```
+    /// # let read = |name| std::fs::read(format!("../../../examples/three_components/{name}"));
+    /// # let (r, s, x) = (read("set.r01")?, read("set.s01")?, read("set.x01")?);
+    /// assert_eq!(sps::Set::new(&r, &s, &x).traces()?, 9);
+    /// # Ok::<(), Box<dyn std::error::Error>>(())
+    /// ```
+    pub fn traces(&self) -> Result<u64, Refusal> {
+        answer(archive::check(self.files))
+    }
+
+    /// The record of a tape, to ask questions of. The tape is six columns, blanks
+    /// included. Nothing is checked yet.
+    ///
+    /// ```
+    /// # let read = |name| std::fs::read(format!("../../../examples/set_a/{name}"));
+    /// # let (r, s, x) = (read("set.r01")?, read("set.s01")?, read("set.x01")?);
+    /// # let set = sps::Set::new(&r, &s, &x);
+    /// assert!(set.record(b"100   ", 11).channel(1)?.is_some());
+    /// assert!(set.record(b"100   ", 12).channel(1)?.is_none());
+    /// # Ok::<(), Box<dyn std::error::Error>>(())
+    /// ```
+    pub fn record(&self, tape: &'a [u8], record: u64) -> Record<'a> {
+        Record::new(self.files, tape, record)
+    }
+}
+
+impl fmt::Display for Accepted {
+    fn fmt(&self, f: &mut fmt::Formatter) -> fmt::Result {
+        let Accepted { receivers, shots, relations, traces } = self;
+        write!(f, "ACCEPTED {receivers} {shots} {relations} {traces}")
+    }
+}
