@@ -1,0 +1,193 @@
+/* Every call and every inline function of sps.h, from C. The argument is the folder of set A. */
+#include "try.h"
+#include <string.h>
+
+static const uint8_t tape[] = {'1', '0', '0', ' ', ' ', ' '};
+
+/* What stands in memory that is lent to be written. */
+enum { STAYS = 0xEE };
+
+/* Text over the columns of a line, from 1. */
+static void put(struct bytes file, size_t line, size_t column, const char *text)
+{
+    memcpy(file.at + (line - 1) * 82 + column - 1, text, strlen(text));
+}
+
+/* The check, and the counts of a set that is refused, which stay. */
+static void refused(struct set set, uint64_t expected)
+{
+    uint64_t counts[4] = {1, 2, 3, UINT64_MAX};
+    SAME(sps_check(FILES(set)), expected);
+    SAME(sps_counts(FILES(set), counts), expected);
+    SAME(counts[0], 1);
+    SAME(counts[1], 2);
+    SAME(counts[2], 3);
+    SAME(counts[3], UINT64_MAX);
+}
+
+static void accepted(struct set set)
+{
+    uint64_t counts[6] = {STAYS, STAYS, STAYS, STAYS, STAYS, STAYS};
+    SAME(sps_check(FILES(set)), 3);
+    SAME(sps_counts(FILES(set), counts + 1), 3);
+    SAME(counts[0], STAYS);
+    SAME(counts[1], 3);
+    SAME(counts[2], 1);
+    SAME(counts[3], 1);
+    SAME(counts[4], 3);
+    SAME(counts[5], STAYS);
+}
+
+/* The lookup and the way back. */
+static void lookups(struct set set)
+{
+    uint64_t trace = sps_trace(FILES(set), tape, 6, 11, 2);
+    SAME(trace, 23 * 16 + 1);
+    SAME(sps_is_refused(trace), 0);
+    SAME(sps_trace_line(trace), 23);
+    SAME(sps_trace_component(trace), 1);
+    SAME(sps_channel(FILES(set), tape, 6, 11, 23, 1), 2);
+    SAME(sps_trace(FILES(set), tape, 6, 11, 4), 0);
+    SAME(sps_trace(FILES(set), tape, 6, 12, 2), 0);
+    SAME(sps_channel(FILES(set), tape, 6, 11, 21, 1), 0);
+    SAME(sps_channel(FILES(set), tape, 6, 11, 9999, 9), 0);
+}
+
+/* Questions out of range, also where fewer bits would be in range. */
+static void out_of_range(struct set set)
+{
+    const uint64_t no = refusal(SPS_QUESTION_RANGE, SPS_NO_FILE, 0, 0);
+    uint8_t lines[6], components[3];
+    SAME(sps_trace(FILES(set), tape, 5, 11, 2), no);
+    SAME(sps_trace(FILES(set), NULL, 0, 11, 2), no);
+    SAME(sps_trace(FILES(set), tape, 6, 10000, 2), no);
+    SAME(sps_trace(FILES(set), tape, 6, (UINT64_C(1) << 32) + 11, 2), no);
+    SAME(sps_trace(FILES(set), tape, 6, 11, UINT64_MAX), no);
+    SAME(sps_channel(FILES(set), tape, 6, 11, 0, 1), no);
+    SAME(sps_channel(FILES(set), tape, 6, 11, 23, 10), no);
+    SAME(sps_channel(FILES(set), tape, 6, 11, 23, (UINT64_C(1) << 32) + 1), no);
+    SAME(sps_spread(FILES(set), tape, 6, UINT64_MAX, lines, 6, components, 3), no);
+}
+
+/* A spread table in memory of just these lengths: the answer, and how many bytes are written. */
+static void spread(struct set set, uint64_t record, size_t lines_len, size_t components_len,
+                   uint64_t expected, size_t places)
+{
+    uint8_t *lines = (uint8_t *)malloc(lines_len + 1);
+    uint8_t *components = (uint8_t *)malloc(components_len + 1);
+    size_t at;
+    memset(lines, STAYS, lines_len + 1);
+    memset(components, STAYS, components_len + 1);
+    SAME(sps_spread(FILES(set), tape, 6, record, lines, lines_len, components, components_len),
+         expected);
+    for (at = 1; at <= places; at++) {
+        SAME(sps_spread_line(lines, at), 21 + at);
+        SAME(lines[2 * at - 1], 0);
+        SAME(components[at - 1], 1);
+    }
+    for (at = 2 * places; at <= lines_len; at++)
+        SAME(lines[at], STAYS);
+    for (at = places; at <= components_len; at++)
+        SAME(components[at], STAYS);
+    free(lines);
+    free(components);
+}
+
+static void spreads(struct set set)
+{
+    const uint64_t too_short = refusal(SPS_SLICE_LENGTH, SPS_NO_FILE, 0, 0);
+    spread(set, 11, 6, 3, 3, 3);
+    spread(set, 11, 7, 3, 3, 3);
+    spread(set, 11, 20, 10, 3, 3);
+    spread(set, 11, 21, 4, 3, 3);
+    spread(set, 11, 5, 3, too_short, 0);
+    spread(set, 11, 4, 3, too_short, 0);
+    spread(set, 11, 6, 2, too_short, 0);
+    spread(set, 11, 0, 0, too_short, 0);
+    spread(set, 12, 6, 3, 0, 0);
+    spread(set, 12, 1, 0, 0, 0);
+    SAME(sps_spread(FILES(set), tape, 6, 11, NULL, 0, NULL, 0), too_short);
+    SAME(sps_spread(FILES(set), tape, 6, 12, NULL, 0, NULL, 0), 0);
+}
+
+/* Files of no byte. */
+static void nothing(struct set set)
+{
+    struct set none = {{NULL, 0}, {NULL, 0}, {NULL, 0}};
+    struct set one = set;
+    const uint64_t no_header = refusal(SPS_HEADER_TYPE, SPS_R, 1, 0);
+    refused(none, no_header);
+    SAME(sps_trace(FILES(none), tape, 6, 11, 2), no_header);
+    SAME(sps_channel(FILES(none), tape, 6, 11, 23, 1), no_header);
+    SAME(sps_spread(FILES(none), tape, 6, 11, NULL, 0, NULL, 0), no_header);
+    one.s = none.s;
+    refused(one, refusal(SPS_HEADER_DIFFERS, SPS_S, 1, 0));
+    one = set;
+    one.x = none.x;
+    refused(one, refusal(SPS_HEADER_DIFFERS, SPS_X, 1, 0));
+}
+
+/* Edits of set A, and what each call says of them. */
+static void edits(struct set set)
+{
+    struct set cut = set;
+    uint64_t answer;
+    cut.r.len = 81;
+    refused(cut, refusal(SPS_FILE_LENGTH, SPS_R, 1, 0));
+
+    put(set.x, 22, 43, "   4");
+    answer = sps_check(FILES(set));
+    SAME(sps_is_refused(answer), 1);
+    SAME(sps_refusal_number(answer), SPS_CHANNELS);
+    SAME(sps_refusal_file(answer), SPS_X);
+    SAME(sps_refusal_line(answer), 22);
+    SAME(sps_refusal_column(answer), 72);
+    refused(set, refusal(6, 3, 22, 72));
+    SAME(sps_trace(FILES(set), tape, 6, 11, 2), answer);
+    SAME(sps_trace(FILES(set), tape, 6, 12, 2), answer);
+    SAME(sps_channel(FILES(set), tape, 6, 11, 23, 1), answer);
+    spread(set, 11, 6, 3, answer, 0);
+    spread(set, 11, 0, 0, answer, 0);
+    put(set.x, 22, 43, "   3");
+
+    put(set.r, 24, 18, "     102");
+    refused(set, refusal(SPS_RECEIVER_ORDER, SPS_R, 24, 2));
+    put(set.r, 24, 18, "     103");
+
+    put(set.s, 22, 82, "\r");
+    refused(set, refusal(SPS_BYTE, SPS_S, 22, 82));
+    put(set.s, 22, 82, "\n");
+    accepted(set);
+}
+
+/* The parts of numbers at their ends. */
+static void parts(void)
+{
+    SAME(sps_is_refused(0), 0);
+    SAME(sps_is_refused((UINT64_C(1) << 40) - 1), 0);
+    SAME(sps_is_refused(UINT64_C(1) << 40), 1);
+    SAME(sps_refusal_number(refusal(21, 0, 0, 0)), SPS_SLICE_LENGTH);
+    SAME(sps_refusal_line(refusal(2, 1, 10000, 0)), 10000);
+    SAME(sps_refusal_column(refusal(3, 2, 9999, 82)), 82);
+    SAME(sps_trace_line(9999 * 16 + 9), 9999);
+    SAME(sps_trace_component(9999 * 16 + 9), 9);
+}
+
+int main(int count, char **words)
+{
+    struct set set;
+    if (count != 2) {
+        fprintf(stderr, "usage: %s FOLDER\n", words[0]);
+        return 2;
+    }
+    set = read_set(words[1]);
+    accepted(set);
+    lookups(set);
+    out_of_range(set);
+    spreads(set);
+    nothing(set);
+    edits(set);
+    parts();
+    free_set(set);
+    return failures != 0;
+}

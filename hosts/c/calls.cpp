@@ -1,0 +1,113 @@
+// Every call of sps.h from C++, on set A. The argument is its folder.
+#include "sps.h"
+#include <array>
+#include <fstream>
+#include <iostream>
+#include <iterator>
+#include <string>
+#include <vector>
+
+namespace {
+
+using Bytes = std::vector<std::uint8_t>;
+
+int failures = 0;
+
+template <typename Found, typename Expected>
+void same(const char *what, const Found &found, const Expected &expected)
+{
+    if (!(found == expected)) {
+        ++failures;
+        std::cerr << what << " is not what is expected\n";
+    }
+}
+
+Bytes read(const std::string &path)
+{
+    std::ifstream file(path, std::ios::binary);
+    return Bytes(std::istreambuf_iterator<char>(file), std::istreambuf_iterator<char>());
+}
+
+struct Set {
+    Bytes r, s, x;
+
+    std::uint64_t check() const
+    {
+        return sps_check(r.data(), r.size(), s.data(), s.size(), x.data(), x.size());
+    }
+    std::uint64_t counts(std::array<std::uint64_t, 4> &counts) const
+    {
+        return sps_counts(r.data(), r.size(), s.data(), s.size(), x.data(), x.size(), counts.data());
+    }
+    std::uint64_t trace(const Bytes &tape, std::uint64_t record, std::uint64_t channel) const
+    {
+        return sps_trace(r.data(), r.size(), s.data(), s.size(), x.data(), x.size(), tape.data(),
+                         tape.size(), record, channel);
+    }
+    std::uint64_t channel(const Bytes &tape, std::uint64_t record, std::uint64_t r_line,
+                          std::uint64_t component) const
+    {
+        return sps_channel(r.data(), r.size(), s.data(), s.size(), x.data(), x.size(), tape.data(),
+                           tape.size(), record, r_line, component);
+    }
+    std::uint64_t spread(const Bytes &tape, std::uint64_t record, Bytes &lines,
+                         Bytes &components) const
+    {
+        return sps_spread(r.data(), r.size(), s.data(), s.size(), x.data(), x.size(), tape.data(),
+                          tape.size(), record, lines.data(), lines.size(), components.data(),
+                          components.size());
+    }
+};
+
+void answers(const Set &set)
+{
+    const Bytes tape = {'1', '0', '0', ' ', ' ', ' '};
+    std::array<std::uint64_t, 4> counts = {{0, 0, 0, 0}};
+    const std::array<std::uint64_t, 4> expected = {{3, 1, 1, 3}};
+    Bytes lines(9, 0xEE), components(4, 0xEE);
+    const Bytes written = {22, 0, 23, 0, 24, 0, 0xEE, 0xEE, 0xEE}, ones = {1, 1, 1, 0xEE};
+
+    same("the check", set.check(), 3u);
+    same("the answer with counts", set.counts(counts), 3u);
+    same("the counts", counts, expected);
+    const std::uint64_t trace = set.trace(tape, 11, 3);
+    same("the R line", sps_trace_line(trace), 24u);
+    same("the component", sps_trace_component(trace), 1u);
+    same("the way back", set.channel(tape, 11, 24, 1), 3u);
+    same("no trace", set.trace(tape, 11, 4), 0u);
+    same("the highest channel", set.spread(tape, 11, lines, components), 3u);
+    same("the lines", lines, written);
+    same("the components", components, ones);
+    same("a line of the table", sps_spread_line(lines.data(), 3), 24u);
+    same("a tape too short", sps_refusal_number(set.trace({'1'}, 11, 3)), SPS_QUESTION_RANGE);
+}
+
+void refusals(Set set)
+{
+    std::array<std::uint64_t, 4> counts = {{9, 9, 9, 9}};
+    const auto stays = counts;
+    set.r.push_back('R');
+    const std::uint64_t answer = set.counts(counts);
+    same("is refused", sps_is_refused(answer), 1);
+    same("the number", sps_refusal_number(answer), SPS_FILE_LENGTH);
+    same("the file", sps_refusal_file(answer), SPS_R);
+    same("the line", sps_refusal_line(answer), 25u);
+    same("the column", sps_refusal_column(answer), 0u);
+    same("the counts of a refusal", counts, stays);
+    same("an empty set", sps_refusal_number(Set().check()), SPS_HEADER_TYPE);
+}
+
+} // namespace
+
+int main(int count, char **words)
+{
+    if (count != 2) {
+        std::cerr << "usage: " << words[0] << " FOLDER\n";
+        return 2;
+    }
+    const std::string folder = words[1];
+    const Set set = {read(folder + "/set.r01"), read(folder + "/set.s01"), read(folder + "/set.x01")};
+    answers(set);
+    refusals(set);
+    return failures != 0;
+}

@@ -1,0 +1,55 @@
+/*
+ * Every call in a thread whose stack is less than 1 MB. The argument is the folder of a set of 9,999
+ * lines a file. It prints the five answers in one line.
+ */
+#include "try.h"
+#include <pthread.h>
+#include <string.h>
+
+/* Whole pages below 1 MB; what the thread itself takes is in it. */
+enum { STACK = 1000000 / 4096 * 4096 };
+
+static const uint8_t tape[] = {'1', '0', '0', ' ', ' ', ' '};
+static uint8_t lines[19998], components[9999];
+
+/* The five answers of a set. */
+struct answers {
+    struct set set;
+    uint64_t check, counts, trace, channel, spread;
+};
+
+static void *ask(void *lent)
+{
+    struct answers *to = (struct answers *)lent;
+    uint64_t counts[4];
+    to->check = sps_check(FILES(to->set));
+    to->counts = sps_counts(FILES(to->set), counts);
+    to->trace = sps_trace(FILES(to->set), tape, 6, 9977, 200);
+    to->channel = sps_channel(FILES(to->set), tape, 6, 9977, 9999, 1);
+    to->spread = sps_spread(FILES(to->set), tape, 6, 9977, lines, sizeof lines, components,
+                            sizeof components);
+    return NULL;
+}
+
+int main(int count, char **words)
+{
+    struct answers to;
+    pthread_attr_t small;
+    pthread_t thread;
+    if (count != 2) {
+        fprintf(stderr, "usage: %s FOLDER\n", words[0]);
+        return 2;
+    }
+    memset(&to, 0, sizeof to);
+    to.set = read_set(words[1]);
+    if (pthread_attr_init(&small) != 0 || pthread_attr_setstacksize(&small, STACK) != 0 ||
+        pthread_create(&thread, &small, ask, &to) != 0 || pthread_join(thread, NULL) != 0) {
+        fprintf(stderr, "no thread of %d bytes of stack\n", STACK);
+        return 2;
+    }
+    printf("%llu %llu %llu %llu %llu\n", (unsigned long long)to.check, (unsigned long long)to.counts,
+           (unsigned long long)to.trace, (unsigned long long)to.channel,
+           (unsigned long long)to.spread);
+    free_set(to.set);
+    return 0;
+}

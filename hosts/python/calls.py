@@ -1,0 +1,91 @@
+"""Every call of libsps from Python, through ctypes.
+
+The arguments are a shared object made of the archive and the folder of set A.
+"""
+
+import ctypes
+import sys
+from pathlib import Path
+
+U64 = ctypes.c_uint64
+SIZE = ctypes.c_size_t
+FILES = [ctypes.c_char_p, SIZE] * 3
+RECORD = [ctypes.c_char_p, SIZE, U64]
+BYTES = [ctypes.POINTER(ctypes.c_uint8), SIZE]
+
+
+def library(path):
+    """The five calls with their types."""
+    sps = ctypes.CDLL(path)
+    types = {
+        "sps_check": [],
+        "sps_counts": [ctypes.POINTER(U64)],
+        "sps_trace": RECORD + [U64],
+        "sps_channel": RECORD + [U64, U64],
+        "sps_spread": RECORD + BYTES + BYTES,
+    }
+    for name, rest in types.items():
+        call = getattr(sps, name)
+        call.argtypes = FILES + rest
+        call.restype = U64
+    return sps
+
+
+def files(folder):
+    """The set of a folder, as the calls take it."""
+    read = [Path(folder, name).read_bytes() for name in ("set.r01", "set.s01", "set.x01")]
+    return [part for file in read for part in (file, len(file))]
+
+
+def refusal(number, file, line, column):
+    """A refusal as one number."""
+    return (number << 40) + (file << 32) + line * 256 + column
+
+
+def answers(sps, set_a):
+    """What set A is answered."""
+    record = [b"100   ", 6, 11]
+    counts = (U64 * 4)()
+    assert sps.sps_check(*set_a) == 3
+    assert sps.sps_counts(*set_a, counts) == 3
+    assert list(counts) == [3, 1, 1, 3]
+    assert sps.sps_trace(*set_a, *record, 2) == 23 * 16 + 1
+    assert sps.sps_channel(*set_a, *record, 23, 1) == 2
+    assert sps.sps_trace(*set_a, *record, 4) == 0
+
+    lines = (ctypes.c_uint8 * 7)(*[238] * 7)
+    components = (ctypes.c_uint8 * 3)()
+    assert sps.sps_spread(*set_a, *record, lines, 7, components, 3) == 3
+    assert bytes(lines) == bytes([22, 0, 23, 0, 24, 0, 238])
+    assert bytes(components) == bytes([1, 1, 1])
+
+
+def refusals(sps, set_a):
+    """What is refused, and what that leaves."""
+    counts = (U64 * 4)(1, 2, 3, 4)
+    r, r_len = set_a[:2]
+    cut = [r, r_len - 1] + set_a[2:]
+    assert sps.sps_counts(*cut, counts) == refusal(1, 1, 24, 0)
+    assert list(counts) == [1, 2, 3, 4]
+    assert sps.sps_check(None, 0, None, 0, None, 0) == refusal(7, 1, 1, 0)
+    assert sps.sps_trace(*set_a, b"100", 3, 11, 2) == refusal(20, 0, 0, 0)
+    assert sps.sps_trace(*set_a, b"100   ", 6, 2**64 - 1, 2) == refusal(20, 0, 0, 0)
+
+    lines = (ctypes.c_uint8 * 5)(*[238] * 5)
+    components = (ctypes.c_uint8 * 3)(*[238] * 3)
+    asked = [*set_a, b"100   ", 6, 11]
+    assert sps.sps_spread(*asked, lines, 5, components, 3) == refusal(21, 0, 0, 0)
+    assert sps.sps_spread(*asked, None, 0, None, 0) == refusal(21, 0, 0, 0)
+    assert bytes(lines) == bytes([238] * 5)
+    assert bytes(components) == bytes([238] * 3)
+
+
+def main():
+    shared, folder = sys.argv[1:]
+    sps, set_a = library(shared), files(folder)
+    answers(sps, set_a)
+    refusals(sps, set_a)
+
+
+if __name__ == "__main__":
+    main()

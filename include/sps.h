@@ -1,0 +1,178 @@
+/*
+ * The proved checker of SPS sets, for C and C++. Link libsps.a.
+ *
+ * Conventions
+ *
+ * A set is three files in the disc form: R (receivers), S (shots), X (relations), lines of 80
+ * columns, CR and LF. Lines and columns count from 1. Every call takes the three files first, each
+ * as a pointer to its bytes and their number.
+ *
+ * Every call answers one 64-bit number. A refusal is
+ *
+ *     number * 2^40 + file * 2^32 + line * 256 + column
+ *
+ * with the numbers and files of the enums below; file, line and column are 0 where there is none.
+ * It is never below 2^40, and every other answer is: the traces, R line * 16 + component, the
+ * channel, or the highest channel, and 0 where there is none. An accepted set without traces
+ * answers 0 too. The inline functions at the end take a number apart.
+ *
+ * A refusal is the first breach in this order: a question out of range (20); the form of R, then
+ * S, then X (1 to 6); the headers (7 to 9); the receivers (10); the shots (11, 12); the relations
+ * (13, 14, 16 to 19); a shot that none names (15); slices too short (21). It writes nothing.
+ *
+ * A call takes any bytes and any numbers. The numbers of a question are 64-bit, so that nothing is
+ * cut before it is judged.
+ *
+ * What the host keeps
+ *
+ * - A pointer and a length name memory of that many bytes, all of it there. The pointer may be
+ *   NULL where the length is 0.
+ * - The memory stays, and nobody else changes it, until the call returns. The call keeps no pointer.
+ * - Memory that a call writes (counts, lines, components) overlaps nothing else that it is given.
+ *   Memory that it only reads may overlap.
+ * - A call takes less than 1 MB of stack, and allocates nothing.
+ * - Calls share nothing: they may run at the same time, also on the same files.
+ */
+#ifndef SPS_H
+#define SPS_H
+
+#include <stddef.h>
+#include <stdint.h>
+
+#ifdef __cplusplus
+extern "C" {
+#endif
+
+/* The refusal numbers, in the paper's order. */
+enum sps_number {
+    SPS_FILE_LENGTH = 1,     /* the file's length is no multiple of 82 */
+    SPS_TOO_MANY_LINES = 2,  /* more than 9,999 lines */
+    SPS_BYTE = 3,            /* a byte outside its range, or no CR or LF at 81, 82 */
+    SPS_LETTER = 4,          /* column 1 is not H or the file's letter, or H after data */
+    SPS_FIELD = 5,           /* a field breaks its rule; the column is its first */
+    SPS_CHANNELS = 6,        /* channels or receivers are crossed, or do not fit each other */
+    SPS_HEADER_TYPE = 7,     /* R's header lacks one of the types 00 to 20 */
+    SPS_H18 = 8,             /* an H18 that holds nothing, or N/A */
+    SPS_HEADER_DIFFERS = 9,  /* the header of S or X differs from R's */
+    SPS_RECEIVER_ORDER = 10, /* a receiver is not above the one before it */
+    SPS_SHOT_EARLIER = 11,   /* a shot is earlier than the one before it */
+    SPS_SHOT_REPEATED = 12,  /* a shot repeats an earlier one */
+    SPS_NO_SHOT = 13,        /* no shot is the relation line's source */
+    SPS_SHOT_ORDER = 14,     /* its shot stands in S before that of the previous relation line */
+    SPS_SHOT_NOT_NAMED = 15, /* no relation line names a shot */
+    SPS_RECORD = 16,         /* the lines of a record do not stand together, or differ */
+    SPS_CHANNEL_ORDER = 17,  /* the channels of a record do not ascend */
+    SPS_NO_RECEIVER = 18,    /* a covered receiver is not there */
+    SPS_COVERED_TWICE = 19,  /* a receiver is covered twice in a record */
+    SPS_QUESTION_RANGE = 20, /* a question is out of range */
+    SPS_SLICE_LENGTH = 21    /* a slice of the spread table is too short */
+};
+
+/* The file of a refusal. */
+enum sps_file {
+    SPS_NO_FILE = 0, /* of 20 and 21 */
+    SPS_R = 1,
+    SPS_S = 2,
+    SPS_X = 3
+};
+
+/*
+ * Checks a set. Answers the number of its traces, which are the channels of all relation lines, or
+ * a refusal, 1 to 19.
+ */
+uint64_t sps_check(const uint8_t *r, size_t r_len, const uint8_t *s, size_t s_len,
+                   const uint8_t *x, size_t x_len);
+
+/*
+ * Checks a set, and counts what it holds. Answers what sps_check does. The receivers, shots,
+ * relation lines and traces of an accepted set go into counts; a refusal leaves it as it is.
+ */
+uint64_t sps_counts(const uint8_t *r, size_t r_len, const uint8_t *s, size_t s_len,
+                    const uint8_t *x, size_t x_len, uint64_t counts[4]);
+
+/*
+ * From a trace to its receiver. Answers R line * 16 + component, 0 where there is no such trace, or
+ * a refusal, 1 to 20.
+ *
+ * The tape is 6 columns of bytes 32 to 126 of which the first is no blank, the record is 0 to 9999,
+ * the channel 1 to 9999. Anything else is refused with 20, before the set is looked at.
+ */
+uint64_t sps_trace(const uint8_t *r, size_t r_len, const uint8_t *s, size_t s_len,
+                   const uint8_t *x, size_t x_len, const uint8_t *tape, size_t tape_len,
+                   uint64_t record, uint64_t channel);
+
+/*
+ * The way back, from a line of R and a component to the channel. Answers the channel, 0 where there
+ * is no such trace (also where the line is a header, a marker or beyond the file), or a refusal,
+ * 1 to 20.
+ *
+ * The tape and the record are as for sps_trace, the line is 1 to 9999, the component 1 to 9.
+ */
+uint64_t sps_channel(const uint8_t *r, size_t r_len, const uint8_t *s, size_t s_len,
+                     const uint8_t *x, size_t x_len, const uint8_t *tape, size_t tape_len,
+                     uint64_t record, uint64_t r_line, uint64_t component);
+
+/*
+ * The spread table of a record. Answers its highest covered channel, 0 where the record is absent,
+ * or a refusal, 1 to 21. The tape and the record are as for sps_trace.
+ *
+ * Place c-1 takes the R line and the component of channel c, or 0 and 0 where c is not covered, for
+ * each c up to the answer. Later places stay, and an absent record writes nothing. A place of
+ * components is a byte. A place of lines is two bytes, the low one first; an odd last byte is no
+ * place and stays. Where either slice has fewer places than the highest channel it is 21, after the
+ * set's own refusals. Lengths are in bytes: 19998 and 9999 are enough for every record.
+ */
+uint64_t sps_spread(const uint8_t *r, size_t r_len, const uint8_t *s, size_t s_len,
+                    const uint8_t *x, size_t x_len, const uint8_t *tape, size_t tape_len,
+                    uint64_t record, uint8_t *lines, size_t lines_len, uint8_t *components,
+                    size_t components_len);
+
+/* Whether an answer is a refusal: 1 or 0. */
+static inline int sps_is_refused(uint64_t answer)
+{
+    return answer >> 40 != 0;
+}
+
+/* The parts of a refusal: one of enum sps_number, one of enum sps_file, line and column. */
+static inline unsigned sps_refusal_number(uint64_t refusal)
+{
+    return (unsigned)(refusal >> 40);
+}
+
+static inline unsigned sps_refusal_file(uint64_t refusal)
+{
+    return (unsigned)(refusal >> 32 & 255);
+}
+
+static inline unsigned sps_refusal_line(uint64_t refusal)
+{
+    return (unsigned)(refusal >> 8 & 16777215);
+}
+
+static inline unsigned sps_refusal_column(uint64_t refusal)
+{
+    return (unsigned)(refusal & 255);
+}
+
+/* The parts of a trace that sps_trace answers: the line of R and the component. */
+static inline unsigned sps_trace_line(uint64_t trace)
+{
+    return (unsigned)(trace >> 4);
+}
+
+static inline unsigned sps_trace_component(uint64_t trace)
+{
+    return (unsigned)(trace & 15);
+}
+
+/* The R line of a channel, from 1, in the lines that sps_spread has written. */
+static inline unsigned sps_spread_line(const uint8_t *lines, size_t channel)
+{
+    return lines[2 * channel - 2] + 256u * lines[2 * channel - 1];
+}
+
+#ifdef __cplusplus
+}
+#endif
+
+#endif
