@@ -3,8 +3,10 @@
 mod headers;
 mod receivers;
 mod records;
+mod seeded;
 mod shots;
 
+pub use seeded::seeded;
 use small_sets::{headers_only, receiver, relation, shot, File, Line, Set};
 
 /// A name, and what makes the set.
