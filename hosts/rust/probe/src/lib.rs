@@ -1,13 +1,9 @@
 //! The proved readers: showing a line, what a line is refused for (5 and 6), what
-//! a file is (1 to 6) and a set (1 to 19), and the values of point and relation
-//! lines.
+//! a file is (1 to 6), and the values of point and relation lines.
 //!
 //! The calls are those of `crates/probe`; the archive carries what they answer
-//! over as numbers, and here the numbers get their names again. The questions on
-//! a set stand in `traces` and `spread`.
-
-mod spread;
-pub mod traces;
+//! over as numbers, and here the numbers get their names again. Sets and questions
+//! on them are what `sps` is for.
 
 /// Columns 1 to 80 of a line.
 pub type Line = [u8; 80];
@@ -76,15 +72,6 @@ mod archive {
         ) -> u64;
         pub safe fn probe_line(line: &Line, file: u8) -> u64;
         pub fn probe_form(bytes: *const u8, len: usize, file: u8) -> u64;
-        pub fn probe_check(
-            r: *const u8,
-            r_len: usize,
-            s: *const u8,
-            s_len: usize,
-            x: *const u8,
-            x_len: usize,
-            counts: &mut [u64; 4],
-        ) -> u64;
         pub safe fn probe_point(line: &Line, numbers: &mut [u64; 10], signed: &mut [i64; 8]);
         pub safe fn probe_relation(line: &Line, numbers: &mut [u64; 16]);
     }
@@ -110,7 +97,7 @@ pub fn show(r: &[u8], s: &[u8], letter: u8, n: usize, out: &mut [u8]) -> u64 {
     }
 }
 
-/// What a line, a file or a set is refused for.
+/// What a line or a file is refused for.
 #[derive(Clone, Copy, Debug, PartialEq, Eq)]
 pub struct Refusal {
     pub number: u64,
@@ -142,41 +129,6 @@ pub fn refusal(line: &Line, file: u8) -> Option<Refusal> {
 pub fn form(bytes: &[u8], file: u8) -> Option<Refusal> {
     // SAFETY: the pointer and the length are those of one slice.
     Refusal::of(unsafe { archive::probe_form(bytes.as_ptr(), bytes.len(), file) })
-}
-
-/// What an accepted set holds.
-#[derive(Clone, Copy, Debug, PartialEq, Eq)]
-pub struct Counts {
-    pub receivers: u64,
-    pub shots: u64,
-    pub relations: u64,
-    pub traces: u64,
-}
-
-/// Checks a set, 1 to 19, and counts what it holds. A refusal leaves the counts
-/// as they were.
-pub fn check(r: &[u8], s: &[u8], x: &[u8]) -> Result<Counts, Refusal> {
-    const BEFORE: [u64; 4] = [u64::MAX, 1 << 63, 0x5555, u64::MAX - 1];
-    let mut counts = BEFORE;
-    // SAFETY: each pointer and length are those of one slice, and `counts` is
-    // lent alone.
-    let answer = unsafe {
-        archive::probe_check(
-            r.as_ptr(),
-            r.len(),
-            s.as_ptr(),
-            s.len(),
-            x.as_ptr(),
-            x.len(),
-            &mut counts,
-        )
-    };
-    if let Some(refusal) = Refusal::of(answer) {
-        assert_eq!(counts, BEFORE, "{refusal:?} writes");
-        return Err(refusal);
-    }
-    let [receivers, shots, relations, traces] = counts;
-    Ok(Counts { receivers, shots, relations, traces })
 }
 
 /// The values of a point line that is not refused; of a marker those of its free

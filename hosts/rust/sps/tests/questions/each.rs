@@ -24,7 +24,7 @@ fn hold(salt: u64, sets: u64, not: Kind, ask: fn(&Set, naive::Relation) -> Vec<Q
         let relations = relations(&set);
         if (1..=8).contains(&relations.len()) {
             for question in ask(&set, random.pick(&relations)) {
-                tally.count(compare(&set, &question));
+                tally.count(&compare(&set, &question));
             }
         }
     }

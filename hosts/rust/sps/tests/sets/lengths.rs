@@ -1,9 +1,9 @@
 //! Lengths: each number of bytes up to a line more or less.
 
-use crate::compare::{compare, Tally};
+use crate::answers::refused;
+use crate::compare::{compare, compare_calls, Tally};
 use many_sets::run::{random, turns};
 use many_sets::sound::sound;
-use probe::Refusal;
 use small_sets::{set_a, File};
 
 #[test]
@@ -31,11 +31,10 @@ fn short_files() {
     for file in File::ALL {
         for length in 0..=164 {
             let set = set_a().cut(file, length);
-            let answer = compare(&set, &format!("{file:?} of {length} bytes"));
+            let answer = compare_calls(&set, &format!("{file:?} of {length} bytes"));
             let line = length as u64 / 82 + 1;
             if length % 82 > 0 {
-                let refusal = Refusal { number: 1, file: file as u64, line, column: 0 };
-                assert_eq!(answer, Err(refusal));
+                assert_eq!(answer, refused(1, file, line, 0));
             }
         }
     }

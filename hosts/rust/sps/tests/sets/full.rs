@@ -1,30 +1,30 @@
 //! 9,999 and 10,000 lines.
 
-use crate::answers::{naive, proved};
-use crate::compare::compare;
-use many_sets::large::{two_million_traces, HOSTILE};
-use probe::{Counts, Refusal};
+use crate::answers::refused;
+use crate::compare::{compare, compare_calls};
+use many_sets::large::{seeded, two_million_traces, HOSTILE};
+use many_sets::run::random;
 use small_sets::{headers_only, receiver, relation, shot, File, Set};
+use sps::Accepted;
 use std::collections::BTreeSet;
-use std::thread;
 
-const COUNTS: Counts =
-    Counts { receivers: 9_978, shots: 9_978, relations: 9_978, traces: 1_995_600 };
+const COUNTS: Accepted =
+    Accepted { receivers: 9_978, shots: 9_978, relations: 9_978, traces: 1_995_600 };
 
 /// 9,999 lines are not too many, 10,000 are; a byte more or less is named first.
 #[test]
 fn most_lines() {
     let full = two_million_traces();
-    assert_eq!(compare(&full, "9,999 lines"), Ok(COUNTS));
+    assert_eq!(compare_calls(&full, "9,999 lines"), Ok(COUNTS));
     for file in File::ALL {
-        let refused = |number, line| Err(Refusal { number, file: file as u64, line, column: 0 });
+        let refused = |number, line| refused(number, file, line, 0);
         let last = full.line(file, 9_999);
         let more = full.clone().add(file, last);
-        assert_eq!(compare(&more, "10,000 lines"), refused(2, 10_000));
-        assert_eq!(compare(&more.clone().over(file, 1), "and a byte"), refused(1, 10_000));
-        assert_eq!(compare(&more.over(file, 82), "10,001 lines"), refused(2, 10_000));
+        assert_eq!(compare_calls(&more, "10,000 lines"), refused(2, 10_000));
+        assert_eq!(compare_calls(&more.clone().over(file, 1), "and a byte"), refused(1, 10_000));
+        assert_eq!(compare_calls(&more.over(file, 82), "10,001 lines"), refused(2, 10_000));
         let less = full.clone().cut(file, 9_999 * 82 - 1);
-        assert_eq!(compare(&less, "9,999 lines but a byte"), refused(1, 9_999));
+        assert_eq!(compare_calls(&less, "9,999 lines but a byte"), refused(1, 9_999));
     }
 }
 
@@ -33,8 +33,7 @@ fn most_lines() {
 fn last_lines() {
     let full = two_million_traces();
     let hold = |set: Set, number, file: File, column| {
-        let refusal = Refusal { number, file: file as u64, line: 9_999, column };
-        assert_eq!(compare(&set, "the last line"), Err(refusal));
+        assert_eq!(compare(&set, "the last line"), refused(number, file, 9_999, column));
     };
     let last = |file, column, text| full.clone().put(file, 9_999, column, text);
     for file in File::ALL {
@@ -62,14 +61,14 @@ fn one_wide_line() {
         .add_all(File::R, (1..=9_978).map(receiver))
         .add(File::S, shot(501))
         .add(File::X, relation().channels(1, 9_978).receivers(1, 9_978));
-    let refused = |number, line| Err(Refusal { number, file: 3, line, column: 64 });
-    let counts = Counts { receivers: 9_978, shots: 1, relations: 1, traces: 9_978 };
-    assert_eq!(compare(&wide, "one line"), Ok(counts));
+    let refused = |number, line| refused(number, File::X, line, 64);
+    let counts = Accepted { receivers: 9_978, shots: 1, relations: 1, traces: 9_978 };
+    assert_eq!(compare_calls(&wide, "one line"), Ok(counts));
     for n in [1, 2, 255, 256, 257, 512, 4_096, 8_192, 9_977, 9_978] {
         let without = wide.clone().remove(File::R, n as usize + 21);
-        assert_eq!(compare(&without, &format!("without {n}")), refused(18, 22));
+        assert_eq!(compare_calls(&without, &format!("without {n}")), refused(18, 22));
         let again = wide.clone().add(File::X, relation().channels(9_979, 9_979).receivers(n, n));
-        assert_eq!(compare(&again, &format!("{n} again")), refused(19, 23));
+        assert_eq!(compare_calls(&again, &format!("{n} again")), refused(19, 23));
     }
 }
 
@@ -78,20 +77,18 @@ fn one_wide_line() {
 fn hostile_sets() {
     let mut numbers = BTreeSet::new();
     for (name, make) in HOSTILE {
-        numbers.insert(compare(&make(), name).map_or_else(|refusal| refusal.number, |_| 0));
+        numbers.insert(compare(&make(), name).map_or_else(|refusal| refusal.number.code(), |_| 0));
     }
     assert_eq!(numbers, BTreeSet::from([0, 9, 12, 13, 15, 16, 18, 19]));
 }
 
-/// The largest set needs no more stack than a megabyte, all that the thread has.
+/// The survey of a benchmark is accepted at each of its sizes.
 #[test]
-fn one_megabyte_of_stack() {
-    let accepted = two_million_traces();
-    let refused = accepted.clone().put(File::X, 9_999, 8, "   0");
-    for set in [accepted, refused] {
-        let expected = naive(&set);
-        let small = thread::Builder::new().stack_size(1 << 20);
-        let answer = small.spawn(move || proved(&set)).expect("a thread").join();
-        assert_eq!(answer.expect("an answer"), expected);
+fn seeded_sets() {
+    for lines in [100, 1_000, 9_999] {
+        let set = seeded(&mut random(37), lines);
+        assert_eq!(File::ALL.map(|file| set.lines(file)), [lines; 3]);
+        let accepted = compare_calls(&set, "a survey").expect("an accepted set");
+        assert!(accepted.traces > lines as u64, "{accepted}");
     }
 }

@@ -1,5 +1,7 @@
 //! Which kinds of answers there are.
 
+use small_sets::Answer;
+
 #[derive(Clone, Copy, Debug)]
 pub enum Kind {
     Found,
@@ -13,13 +15,13 @@ pub enum Kind {
 }
 
 impl Kind {
-    fn of(answer: u64) -> Kind {
-        match (answer >> 40, answer) {
-            (0, 0) => Kind::Nothing,
-            (0, _) => Kind::Found,
-            (20, _) => Kind::OutOfRange,
-            (21, _) => Kind::TooShort,
-            _ => Kind::OfTheSet,
+    fn of(answer: &Answer) -> Kind {
+        match answer {
+            Answer::NoTrace | Answer::Spread { highest: 0, .. } => Kind::Nothing,
+            Answer::Refused { number: 20, .. } => Kind::OutOfRange,
+            Answer::Refused { number: 21, .. } => Kind::TooShort,
+            Answer::Refused { .. } => Kind::OfTheSet,
+            _ => Kind::Found,
         }
     }
 }
@@ -29,7 +31,7 @@ impl Kind {
 pub struct Tally([u64; 5]);
 
 impl Tally {
-    pub fn count(&mut self, answer: u64) {
+    pub fn count(&mut self, answer: &Answer) {
         self.0[Kind::of(answer) as usize] += 1;
     }
 

@@ -16,6 +16,6 @@ pub fn lent<T: Copy + Debug + PartialEq, A>(
 }
 
 /// Holds that places are as they were.
-fn stay<T: Copy + Debug + PartialEq>(stays: T, places: &[T]) {
+pub fn stay<T: Copy + Debug + PartialEq>(stays: T, places: &[T]) {
     assert!(places.iter().all(|place| *place == stays), "{stays:?} becomes {places:?}");
 }

@@ -1,11 +1,14 @@
 //! The proved set check and the naive reader get the same sets, and answer the
-//! same: some 350,000 sound and damaged ones, the table, the examples, and sets
-//! of 9,999 lines a file.
+//! same: some 350,000 sound and damaged ones, the examples, and sets of 9,999 lines
+//! a file. The table is run through all entries in `table`.
 //!
 //! `PROBE_SEED` gives another seed, and `PROBE_TIMES` so many times the sets. A
 //! set on which they differ is kept below cargo's directory for tests.
 
 mod answers;
+#[allow(dead_code)]
+#[path = "../../src/archive.rs"]
+mod archive;
 mod columns;
 mod compare;
 mod damaged;
@@ -14,4 +17,4 @@ mod full;
 #[path = "../common/keep.rs"]
 mod keep;
 mod lengths;
-mod table;
+mod threads;

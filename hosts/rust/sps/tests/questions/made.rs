@@ -30,7 +30,7 @@ fn asked(salt: u64, changes: usize, ask: Ask) -> Tally {
         }
         for _ in 0..12 {
             let question = ask(&mut random, &set);
-            tally.count(compare(&set, &question));
+            tally.count(&compare(&set, &question));
         }
     }
     tally

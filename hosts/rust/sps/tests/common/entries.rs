@@ -1,0 +1,88 @@
+//! The ways to put a question to a set. The answers have the table's form; a refused
+//! spread table is held to leave its slices as they are.
+
+use crate::lent::{lent, stay};
+use small_sets::{Answer, Question, Set, STAYS};
+use sps::{Accepted, Record, Refusal, Trace};
+
+/// What stands in each line's place before the question.
+const LINE_STAYS: u16 = u16::from_le_bytes([STAYS; 2]);
+
+/// The answers of each of the proved calls for a question, with how it is called.
+pub fn proved(Set { r, s, x }: &Set, question: &Question) -> Vec<(&'static str, Answer)> {
+    let set = sps::Set::new(r, s, x);
+    match question {
+        Question::Check => vec![("check", told(set.check(), accepted))],
+        Question::Trace { tape, record, channel } => {
+            vec![("channel", told(set.record(tape, *record).channel(*channel), traced))]
+        }
+        Question::Channel { tape, record, r_line, component } => {
+            let answer = set.record(tape, *record).receiver(*r_line, *component);
+            vec![("receiver", told(answer, channeled))]
+        }
+        &Question::Spread { ref tape, record, lines_len, components_len } => {
+            let record = set.record(tape, record);
+            vec![
+                // These are lent as an even number of bytes.
+                ("16-bit numbers", spread(record, lines_len, components_len)),
+                ("an odd number of bytes", spread_bytes(record, 2 * lines_len + 1, components_len)),
+            ]
+        }
+    }
+}
+
+fn told<T>(answer: Result<T, Refusal>, show: impl FnOnce(T) -> Answer) -> Answer {
+    answer.map_or_else(refused, show)
+}
+
+fn refused(Refusal { number, file, line, column }: Refusal) -> Answer {
+    Answer::Refused {
+        number: small(number.code()),
+        file: file.map_or(0, |file| file as u8 + 1),
+        line: small(line),
+        column: small(column),
+    }
+}
+
+fn accepted(Accepted { receivers, shots, relations, traces }: Accepted) -> Answer {
+    Answer::Accepted { receivers, shots, relations, traces }
+}
+
+fn traced(trace: Option<Trace>) -> Answer {
+    trace.map_or(Answer::NoTrace, |Trace { r_line, component }| Answer::Trace {
+        r_line: small(r_line),
+        component: small(component),
+    })
+}
+
+fn channeled(channel: Option<u64>) -> Answer {
+    channel.map_or(Answer::NoTrace, |channel| Answer::Channel(small(channel)))
+}
+
+fn small<T: TryFrom<u64>>(number: u64) -> T {
+    number.try_into().unwrap_or_else(|_| panic!("{number} is too large"))
+}
+
+fn spread(record: Record, lines_len: usize, components_len: usize) -> Answer {
+    let ((answer, components), lines) = lent(LINE_STAYS, lines_len, |lines| {
+        lent(STAYS, components_len, |components| record.spread(lines, components))
+    });
+    filled(answer, lines, components)
+}
+
+fn spread_bytes(record: Record, bytes_len: usize, components_len: usize) -> Answer {
+    let ((answer, components), bytes) = lent(STAYS, bytes_len, |bytes| {
+        lent(STAYS, components_len, |components| record.spread_bytes(bytes, components))
+    });
+    let (places, over) = bytes.as_chunks();
+    stay(STAYS, over);
+    filled(answer, places.iter().copied().map(u16::from_le_bytes).collect(), components)
+}
+
+fn filled(answer: Result<u64, Refusal>, lines: Vec<u16>, components: Vec<u8>) -> Answer {
+    if answer.is_err() {
+        stay(LINE_STAYS, &lines);
+        stay(STAYS, &components);
+    }
+    told(answer, |highest| Answer::Spread { highest: small(highest), lines, components })
+}

@@ -1,0 +1,31 @@
+//! What each of the readers answers to a set.
+
+use sps::{Accepted, Number, Refusal};
+
+pub type Answer = Result<Accepted, Refusal>;
+
+/// A refusal at a place of a file.
+pub fn refused(number: u64, file: small_sets::File, line: u64, column: u64) -> Answer {
+    let file = match file {
+        small_sets::File::R => sps::File::R,
+        small_sets::File::S => sps::File::S,
+        small_sets::File::X => sps::File::X,
+    };
+    Err(Refusal { number: Number::of(number), file: Some(file), line, column })
+}
+
+pub fn naive(set: &small_sets::Set) -> Answer {
+    match naive::check(&set.r, &set.s, &set.x) {
+        Ok(naive::Counts { receivers, shots, relations, traces }) => {
+            Ok(Accepted { receivers, shots, relations, traces })
+        }
+        Err(naive::Refusal { number, file, line, column }) => {
+            let file = file.map(|file| small_sets::File::ALL[file as usize]).expect("a place");
+            refused(number.into(), file, line.into(), column.into())
+        }
+    }
+}
+
+pub fn proved(set: &small_sets::Set) -> Answer {
+    sps::Set::new(&set.r, &set.s, &set.x).check()
+}
