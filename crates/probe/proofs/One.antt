@@ -7,14 +7,6 @@ use Rattle.probe.proofs.probe_line as probe-line
 use Rattle.probe.proofs.probe_line.Reads as probe-line-reads
 use Rattle.probe.proofs.probe_form as probe-form
 use Rattle.probe.proofs.probe_form.Reads as probe-form-reads
-use Rattle.probe.proofs.probe_check as probe-check
-use Rattle.probe.proofs.probe_check.Reads as probe-check-reads
-use Rattle.probe.proofs.probe_trace as probe-trace
-use Rattle.probe.proofs.probe_trace.Reads as probe-trace-reads
-use Rattle.probe.proofs.probe_channel as probe-channel
-use Rattle.probe.proofs.probe_channel.Reads as probe-channel-reads
-use Rattle.probe.proofs.probe_spread as probe-spread
-use Rattle.probe.proofs.probe_spread.Reads as probe-spread-reads
 use Rattle.probe.proofs.probe_point as probe-point
 use Rattle.probe.proofs.probe_point.Reads as probe-point-reads
 use Rattle.probe.proofs.probe_relation as probe-relation
@@ -34,18 +26,3 @@ probe-point-one κs a v v′ w w′ p p′ = (refl, both refl (both (p .0 ∙ sy
 
 pub probe-relation-one : One probe-relation.ended probe-relation-reads.Post
 probe-relation-one κs a v v′ w w′ p p′ = (refl, both refl (both (p ∙ sym p′) refl))
-
-pub probe-check-one : One probe-check.ended probe-check-reads.Post
-probe-check-one κs a v v′ w w′ p p′ = (p .0 ∙ sym (p′ .0), both refl (both refl (both refl (both (p .1 ∙ sym (p′ .1)) refl))))
-
-pub probe-trace-one : One probe-trace.ended probe-trace-reads.Post
-probe-trace-one κs a v v′ w w′ p p′ = (p ∙ sym p′, refl)
-
-pub probe-channel-one : One probe-channel.ended probe-channel-reads.Post
-probe-channel-one κs a v v′ w w′ p p′ = (p ∙ sym p′, refl)
-
-pub probe-spread-one : One probe-spread.ended probe-spread-reads.Post
-probe-spread-one κs a v v′ w w′ p p′ = (
-  p .0 ∙ sym (p′ .0),
-  both refl (both refl (both refl (both refl (both refl (both (p .1 .0 ∙ sym (p′ .1 .0)) (both (p .1 .1 ∙ sym (p′ .1 .1)) refl)))))),
-)
