@@ -1,0 +1,78 @@
+//! Says of three files whether they are an SPS set, and if not, why: the verdict on
+//! standard output, the reason and the line on standard error.
+//!
+//! All it knows of sets is what the proved check says. `files` reads the three files,
+//! `reason` puts a refusal into words, `fields` names the field that a column starts.
+
+#![forbid(unsafe_code)]
+
+mod fields;
+mod files;
+mod reason;
+
+use files::Named;
+use sps::Set;
+use std::ffi::OsString;
+use std::fmt::Display;
+use std::io::{self, Write};
+use std::process::ExitCode;
+
+const HELP: &str = "\
+usage: spswhy R S X
+
+Checks the SPS set of the files R (receivers), S (shots) and X (relations), lines of
+80 columns, CR and LF. Prints one line on standard output:
+
+    ACCEPTED receivers shots relation-lines traces
+    REFUSED number file line column
+
+A refusal is the first breach. Its reason and its line, with a mark under the column,
+go to standard error.
+
+Status 0: accepted. 1: refused. 2: no verdict, since a file could not be read, the
+arguments are not three, or the verdict could not be written.
+";
+
+const ACCEPTED: u8 = 0;
+const REFUSED: u8 = 1;
+const NO_VERDICT: u8 = 2;
+
+fn main() -> ExitCode {
+    let words: Vec<OsString> = std::env::args_os().skip(1).collect();
+    let status = match words.as_slice() {
+        [word] if word == "--help" || word == "-h" => print(HELP).map(|()| ACCEPTED),
+        [r, s, x] => judge([r, s, x].map(Named::new)),
+        _ => Err("three files are needed: R, S and X; --help says more".to_owned()),
+    };
+    ExitCode::from(status.unwrap_or_else(|why| {
+        say(format_args!("spswhy: {why}\n"));
+        NO_VERDICT
+    }))
+}
+
+/// Reads the files, has them checked, and says what comes of it.
+fn judge(names: [Named; 3]) -> Result<u8, String> {
+    let [r, s, x] = &names;
+    let files = [r.read()?, s.read()?, x.read()?];
+    let [r, s, x] = &files;
+    match Set::new(r, s, x).check() {
+        Ok(accepted) => print(format_args!("{accepted}\n")).map(|()| ACCEPTED),
+        Err(refusal) => {
+            print(format_args!("{refusal}\n"))?;
+            say(reason::of(&refusal, &names, &files));
+            Ok(REFUSED)
+        }
+    }
+}
+
+/// Writes to standard output.
+fn print(text: impl Display) -> Result<(), String> {
+    let mut out = io::stdout().lock();
+    let written = write!(out, "{text}").and_then(|()| out.flush());
+    written.map_err(|error| format!("standard output cannot be written: {error}"))
+}
+
+/// Writes to standard error; where that cannot be written nobody reads it.
+fn say(text: impl Display) {
+    let _ = write!(io::stderr().lock(), "{text}");
+}

@@ -1,0 +1,58 @@
+//! A refusal in words, with the line that it is about.
+
+use crate::fields::field;
+use crate::files::Named;
+use sps::{File, Number, Refusal};
+
+/// The bytes of a line, and how many of them are columns of text.
+const LINE: usize = 82;
+const COLUMNS: usize = 80;
+
+/// The place, the reason, and the line with a mark under the column.
+pub fn of(refusal: &Refusal, names: &[Named; 3], files: &[Vec<u8>; 3]) -> String {
+    let Refusal { number, file, line, column } = *refusal;
+    let reason = format!("refused with {}: {number}\n", number.code());
+    let Some(file) = file else {
+        return reason;
+    };
+    let name = names[file as usize].name();
+    let place = match column {
+        0 => format!("{name}, line {line}\n"),
+        _ => format!("{name}, line {line}, column {column}\n"),
+    };
+    let line = match (column as usize, bytes_of(&files[file as usize], line)) {
+        (0, _) => "no line is shown: the breach is of no column\n".to_owned(),
+        (_, None) => "no line is shown: it is beyond the end of the file\n".to_owned(),
+        (column, Some(line)) => rule(number, file, line, column) + &marked(line, column),
+    };
+    place + &reason + &line
+}
+
+/// A whole line with its CR and LF.
+fn bytes_of(file: &[u8], line: u64) -> Option<&[u8]> {
+    let above = usize::try_from(line).ok()?.checked_sub(1)?;
+    file.chunks_exact(LINE).nth(above)
+}
+
+/// Of a field that breaks its rule, its name and the rule.
+fn rule(number: Number, file: File, line: &[u8], column: usize) -> String {
+    match field(file, line, column).filter(|_| number == Number::Field) {
+        Some((first, last, name, rule)) if first == last => {
+            format!("column {first} is the {name}: {rule}\n")
+        }
+        Some((first, last, name, rule)) => {
+            format!("columns {first} to {last} are the {name}: {rule}\n")
+        }
+        None => String::new(),
+    }
+}
+
+/// The columns of a line, and below them a mark. A byte that is no character of a
+/// line stands as a `?`; CR and LF are left out where the mark is not beyond them.
+fn marked(line: &[u8], column: usize) -> String {
+    let shown = line.iter().take(column.max(COLUMNS)).map(|&byte| match byte {
+        32..=126 => char::from(byte),
+        _ => '?',
+    });
+    format!("{}\n{:>column$}\n", shown.collect::<String>(), '^')
+}

@@ -1,0 +1,40 @@
+//! What the examples print. `cargo test` builds them beside the tests.
+
+use std::path::Path;
+use std::process::Command;
+
+/// Runs an example on a folder of `examples/`; the status is 0 unless it is said.
+fn printed(example: &str, folder: &str, words: &[&str], well: bool) -> String {
+    let bin = Path::new(env!("CARGO_BIN_EXE_spswhy"));
+    let program = bin.with_file_name("examples").join(example);
+    let folder = Path::new(env!("CARGO_MANIFEST_DIR")).join("../../../examples").join(folder);
+    let output = Command::new(&program).arg(folder).args(words).output();
+    let output = output.expect("an example, as `cargo test` builds it when no target is named");
+    assert_eq!(output.status.success(), well, "{example}: {output:?}");
+    String::from_utf8(output.stdout).expect("text")
+}
+
+#[test]
+fn check() {
+    let accepted = "ACCEPTED 3 1 1 3\n3 receivers, 1 shots\n1 relation lines, 3 traces\n";
+    assert_eq!(printed("check", "set_a", &[], true), accepted);
+    let refused = "REFUSED 10 R 24 2\nin R, line 24, column 2\nnumber 10: a receiver is not above \
+                   the receiver line before it, by line name, point number and index\n";
+    assert_eq!(printed("check", "unsorted_receivers", &[], true), refused);
+}
+
+#[test]
+fn follow() {
+    let there_and_back = "channel 6: R line 23, component 3\nand back: channel 6\n";
+    assert_eq!(printed("follow", "three_components", &["6"], true), there_and_back);
+    assert_eq!(printed("follow", "three_components", &["10"], true), "channel 10: no trace\n");
+    assert_eq!(printed("follow", "odd_channel", &["1"], false), "");
+}
+
+#[test]
+fn spread() {
+    let table = "highest channel 3\nchannel 1: R line 22, component 1\n\
+                 channel 2: R line 23, component 1\nchannel 3: R line 24, component 1\n";
+    assert_eq!(printed("spread", "set_a", &[], true), table);
+    assert_eq!(printed("spread", "headers_only", &[], true), "highest channel 0\n");
+}

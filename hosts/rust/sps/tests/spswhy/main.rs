@@ -1,0 +1,27 @@
+//! The command for a person: what it prints, what it says, and its status.
+
+#[path = "../common/program.rs"]
+mod program;
+
+mod large;
+mod reasons;
+mod unreadable;
+
+use program::{folder, spswhy, write, NAMES};
+use small_sets::Set;
+use std::process::Output;
+
+/// The status, standard output and standard error of a run.
+type Said = (Option<i32>, String, String);
+
+fn said(output: Output) -> Said {
+    let text = |bytes| String::from_utf8(bytes).expect("text");
+    (output.status.code(), text(output.stdout), text(output.stderr))
+}
+
+/// What is said of a set.
+fn of(name: &str, set: &Set) -> Said {
+    let folder = folder(name);
+    write(&folder, set);
+    said(spswhy(&folder, &NAMES))
+}

@@ -1,0 +1,98 @@
+//! Verdicts and reasons.
+
+use crate::{folder, of, said, spswhy, write, NAMES};
+use small_sets::{set_a, table, Answer, File, Question};
+use sps::Number;
+use std::collections::BTreeSet;
+
+#[test]
+fn accepted() {
+    let expected = (Some(0), "ACCEPTED 3 1 1 3\n".to_owned(), String::new());
+    assert_eq!(of("accepted", &set_a()), expected);
+}
+
+/// The place, the reason, the field with its rule, the line and the mark.
+#[test]
+fn a_field() {
+    let (status, verdict, reason) = of("a_field", &set_a().put(File::X, 22, 14, " L1"));
+    assert_eq!((status, verdict.as_str()), (Some(1), "REFUSED 5 X 22 14\n"));
+    let expected = "\
+set.x01, line 22, column 14
+refused with 5: a field breaks its rule
+columns 14 to 29 are the source line name: its first column is not blank
+X100     1111 L1                  5011   1   31L1                   101     1031
+             ^
+";
+    assert_eq!(reason, expected);
+}
+
+/// A mark below CR and LF, and bytes that are no characters.
+#[test]
+fn strange_bytes() {
+    let set = set_a().byte(File::R, 23, 82, b'\r').byte(File::S, 22, 3, 0xC3);
+    let (_, verdict, reason) = of("strange_bytes", &set);
+    assert_eq!(verdict, "REFUSED 3 R 23 82\n");
+    let [line, mark] = last_two(&reason);
+    assert_eq!((line.len(), &line[78..]), (82, "45??"));
+    assert_eq!(mark, format!("{:>82}", '^'));
+    let (_, verdict, reason) = of("strange_bytes", &set.byte(File::R, 23, 82, b'\n'));
+    assert_eq!(verdict, "REFUSED 3 S 22 3\n");
+    assert_eq!(last_two(&reason).map(|line| &line[..3]), ["SL?", "  ^"]);
+}
+
+fn last_two(text: &str) -> [&str; 2] {
+    let lines: Vec<&str> = text.lines().collect();
+    let [.., line, mark] = lines[..] else { panic!("{text}") };
+    [line, mark]
+}
+
+/// Of every number that a set is refused for: the file as it is named, the words of
+/// the rule, and the line with its mark where there is one.
+#[test]
+fn each_number() {
+    let folder = folder("each_number");
+    let mut numbers = BTreeSet::new();
+    for case in table().into_iter().filter(|case| case.question == Question::Check) {
+        let Answer::Refused { number, file, line, column } = case.expected else { continue };
+        if number != 5 && !numbers.insert((number, column == 0)) {
+            continue;
+        }
+        write(&folder, &case.set);
+        let (status, verdict, reason) = said(spswhy(&folder, &NAMES));
+        assert_eq!((status, Some(verdict)), (Some(1), case.expected.verdict()), "{}", case.name);
+        let shown = Number::of(number.into()).to_string();
+        let name = NAMES[usize::from(file) - 1];
+        assert!(reason.starts_with(&format!("{name}, line {line}")), "{reason}");
+        assert!(reason.contains(&format!("\nrefused with {number}: {shown}\n")), "{reason}");
+        if column == 0 {
+            assert!(
+                reason.ends_with("\nno line is shown: the breach is of no column\n"),
+                "{reason}"
+            );
+            continue;
+        }
+        assert!(reason.contains(&format!("line {line}, column {column}\n")), "{reason}");
+        let [text, mark] = last_two(&reason);
+        assert_eq!(mark.trim_start_matches(' '), "^");
+        assert_eq!(mark.len(), usize::from(column), "{reason}");
+        assert!(text.len() >= 80, "{reason}");
+        if number == 5 {
+            let field = format!("column {column} is the ");
+            let fields = format!("columns {column} to ");
+            assert!(reason.contains(&field) || reason.contains(&fields), "{reason}");
+        }
+    }
+    assert!((1..=19).all(|number| numbers.iter().any(|of| of.0 == number) || number == 5));
+}
+
+/// A file is named as it is given.
+#[test]
+fn other_names() {
+    let above = folder("other_names");
+    let set = set_a().cut(File::R, 81);
+    write(&above, &set);
+    let names = NAMES.map(|name| format!("../other_names/{name}"));
+    let (status, verdict, reason) = said(spswhy(&above, &names.each_ref().map(|name| &name[..])));
+    assert_eq!((status, verdict.as_str()), (Some(1), "REFUSED 1 R 1 0\n"));
+    assert!(reason.starts_with("../other_names/set.r01, line 1\n"), "{reason}");
+}

@@ -1,0 +1,104 @@
+//! No verdict: files that cannot be read, other words, output that cannot be written.
+
+use crate::{folder, of, said, spswhy, write, NAMES};
+use small_sets::{set_a, Set};
+use std::fs::{self, File};
+use std::io::Write;
+use std::path::{Path, PathBuf};
+use std::process::{Command, Stdio};
+
+/// A folder with set A, a folder and a pipe that nobody writes.
+fn prepared(name: &str) -> PathBuf {
+    let folder = folder(name);
+    write(&folder, &set_a());
+    fs::create_dir(folder.join("folder")).expect("a folder");
+    let made = Command::new("mkfifo").arg(folder.join("pipe")).status().expect("mkfifo runs");
+    assert!(made.success());
+    folder
+}
+
+/// Status 2, nothing on standard output, and these words.
+fn no_verdict(folder: &Path, words: &[&str], expected: &str) {
+    let (status, verdict, why) = said(spswhy(folder, words));
+    assert_eq!((status, verdict.as_str()), (Some(2), ""), "{words:?}");
+    assert!(why.contains(expected), "{words:?}: {why}");
+    assert_eq!(why.lines().count(), 1, "{why}");
+}
+
+#[test]
+fn files_that_cannot_be_read() {
+    let folder = prepared("files_that_cannot_be_read");
+    let not_regular = "cannot be read: not a regular file";
+    for at in 0..3 {
+        for (name, why) in [
+            ("missing", "missing cannot be read: No such file"),
+            ("", "cannot be read: No such file"),
+            ("set.r01/below", "set.r01/below cannot be read: Not a directory"),
+            ("folder", not_regular),
+            (".", not_regular),
+            ("pipe", not_regular),
+            ("/dev/zero", not_regular),
+            ("/dev/null", not_regular),
+        ] {
+            let mut names = NAMES;
+            names[at] = name;
+            no_verdict(&folder, &names, why);
+        }
+    }
+}
+
+/// The first of the three is named.
+#[test]
+fn two_missing_files() {
+    let folder = prepared("two_missing_files");
+    no_verdict(&folder, &["set.r01", "no_s", "no_x"], "no_s cannot be read");
+}
+
+#[test]
+fn other_words() {
+    let folder = prepared("other_words");
+    let needed = "three files are needed";
+    no_verdict(&folder, &[], needed);
+    no_verdict(&folder, &["set.r01"], needed);
+    no_verdict(&folder, &["set.r01", "set.s01"], needed);
+    no_verdict(&folder, &["set.r01", "set.s01", "set.x01", "set.x01"], needed);
+    no_verdict(&folder, &["--version"], needed);
+}
+
+#[test]
+fn help() {
+    let folder = folder("help");
+    for word in ["--help", "-h"] {
+        let (status, help, why) = said(spswhy(&folder, &[word]));
+        assert_eq!((status, why.as_str()), (Some(0), ""));
+        assert!(help.starts_with("usage: spswhy R S X\n"), "{help}");
+    }
+}
+
+#[test]
+fn empty_files() {
+    let (status, verdict, reason) = of("empty_files", &Set::default());
+    assert_eq!((status, verdict.as_str()), (Some(1), "REFUSED 7 R 1 0\n"));
+    assert!(reason.ends_with("no line is shown: the breach is of no column\n"), "{reason}");
+}
+
+/// Runs it on a set that is refused, with other places for what it prints and says.
+fn with(name: &str, out: Stdio, err: Stdio) -> Option<i32> {
+    let folder = folder(name);
+    write(&folder, &set_a().cut(small_sets::File::X, 0));
+    let mut command = Command::new(env!("CARGO_BIN_EXE_spswhy"));
+    let status = command.args(NAMES).current_dir(folder).stdout(out).stderr(err).status();
+    status.expect("spswhy runs").code()
+}
+
+#[test]
+fn output_that_cannot_be_written() {
+    let full = || Stdio::from(File::options().write(true).open("/dev/full").expect("a device"));
+    assert_eq!(with("full_out", full(), Stdio::null()), Some(2));
+    assert_eq!(with("full_both", full(), full()), Some(2));
+    assert_eq!(with("full_err", Stdio::null(), full()), Some(1));
+    let (reader, mut writer) = std::io::pipe().expect("a pipe");
+    writer.write_all(b" ").expect("a pipe with a reader");
+    drop(reader);
+    assert_eq!(with("closed_out", writer.into(), Stdio::null()), Some(2));
+}
