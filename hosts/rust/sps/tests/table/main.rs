@@ -1,0 +1,63 @@
+//! The one table through every entry: the naive reader, the proved calls, and the
+//! programs, which have its cases of the set check.
+
+#[path = "../common/difference.rs"]
+mod difference;
+#[path = "../common/entries.rs"]
+mod entries;
+#[path = "../common/lent.rs"]
+mod lent;
+#[path = "../../../naive/tests/common/mod.rs"]
+mod naive_entry;
+#[path = "../common/program.rs"]
+mod program;
+
+use difference::difference;
+use program::{folder, spswhy, write, NAMES};
+use small_sets::{table, Case, Question};
+use std::path::Path;
+
+/// The answers of each entry that answers more than verdicts.
+#[test]
+fn each_call() {
+    let (mut checks, mut questions) = (0, 0);
+    for case in table() {
+        let (naive, number) = naive_entry::answer(&case.set, &case.question);
+        let answers = entries::proved(&case.set, &case.question);
+        for (call, answer) in [("naive", naive)].into_iter().chain(answers) {
+            let difference = difference(&answer, &case.expected);
+            assert!(answer == case.expected, "{} ({call})\n{difference}", case.name);
+        }
+        assert_eq!(number, case.expected.host_number(), "{}", case.name);
+        match case.question {
+            Question::Check => checks += 1,
+            _ => questions += 1,
+        }
+    }
+    assert!(checks > 1_000 && questions > 150, "{checks} checks, {questions} questions");
+}
+
+/// A program's verdict line on the set in a folder; what else it says is no matter here.
+type Program = fn(&Path) -> Vec<u8>;
+
+/// Each case of the set check through a program that has room for so many bytes a file.
+fn entry(name: &str, most: usize, program: Program) {
+    let folder = folder(name);
+    let fits = |case: &Case| {
+        let longest = case.set.r.len().max(case.set.s.len()).max(case.set.x.len());
+        case.question == Question::Check && longest <= most
+    };
+    let mut cases = 0;
+    for case in table().into_iter().filter(fits) {
+        write(&folder, &case.set);
+        let line = String::from_utf8(program(&folder)).expect("text");
+        assert_eq!(Some(line), case.expected.verdict(), "{}", case.name);
+        cases += 1;
+    }
+    assert!(cases > 1_000, "{cases} cases");
+}
+
+#[test]
+fn the_command_for_a_person() {
+    entry("table_spswhy", usize::MAX, |folder| spswhy(folder, &NAMES).stdout);
+}
