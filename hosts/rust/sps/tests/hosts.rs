@@ -75,6 +75,17 @@ fn c() {
 }
 
 #[test]
+fn c_example() {
+    let example = compiled("cc", "-std=c99", "example.c", "example_c");
+    let [r, s, x] = ["set.r01", "set.s01", "set.x01"].map(|name| set_a().join(name));
+    let printed = run(&example, &[&r, &s, &x]);
+    assert_eq!(printed, "3 receivers, 3 traces\nR line 23, component 1\n");
+    let refused = Command::new(example).args([&r, &r, &x]).output().expect("it runs");
+    assert_eq!(refused.status.code(), Some(1));
+    assert_eq!(refused.stdout, b"refused with 4: file 2, line 22, column 1\n");
+}
+
+#[test]
 fn cpp() {
     run(compiled("c++", "-std=c++11", "calls.cpp", "calls_cpp"), &[&set_a()]);
 }

@@ -1,0 +1,39 @@
+/* Checks the set R S X, and follows channel 2 of tape 100, record 11.  cc -I include example.c libsps.a */
+#include "sps.h"
+#include <stdio.h>
+
+/* A line more than a file may have, so that one too long is refused. */
+enum { MOST = 82 * 10000 };
+
+static uint8_t r[MOST], s[MOST], x[MOST];
+
+static size_t read_file(const char *name, uint8_t *to)
+{
+    FILE *file = fopen(name, "rb");
+    size_t length = file == NULL ? 0 : fread(to, 1, MOST, file);
+    if (file == NULL || fclose(file) != 0)
+        perror(name);
+    return length;
+}
+
+int main(int count, char **names)
+{
+    uint64_t answer, counts[4];
+    size_t r_len, s_len, x_len;
+    if (count != 4)
+        return 2;
+    r_len = read_file(names[1], r);
+    s_len = read_file(names[2], s);
+    x_len = read_file(names[3], x);
+
+    answer = sps_counts(r, r_len, s, s_len, x, x_len, counts);
+    if (sps_is_refused(answer)) {
+        printf("refused with %u: file %u, line %u, column %u\n", sps_refusal_number(answer),
+               sps_refusal_file(answer), sps_refusal_line(answer), sps_refusal_column(answer));
+        return 1;
+    }
+    printf("%lu receivers, %lu traces\n", (unsigned long)counts[0], (unsigned long)counts[3]);
+    answer = sps_trace(r, r_len, s, s_len, x, x_len, (const uint8_t *)"100   ", 6, 11, 2);
+    printf("R line %u, component %u\n", sps_trace_line(answer), sps_trace_component(answer));
+    return 0;
+}
