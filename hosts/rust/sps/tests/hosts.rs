@@ -133,6 +133,25 @@ fn written(name: &str, set: &Set) -> PathBuf {
     folder
 }
 
+/// The archive has the five calls, asks for no more than `memset` and its like, and has
+/// no memory of its own that is written: it allocates and shares nothing.
+#[test]
+fn symbols_of_the_archive() {
+    let symbols = run("nm", &[&"-P", &ARCHIVE]);
+    let mut calls = Vec::new();
+    for symbol in symbols.lines() {
+        match symbol.split_whitespace().collect::<Vec<_>>()[..] {
+            [name, "T", ..] => calls.push(name),
+            [name, "U", ..] => assert!(["memset", "memcpy", "memmove"].contains(&name), "{name}"),
+            [name, kind, ..] => assert!(["t", "r", "n"].contains(&kind), "{name} is {kind}"),
+            _ => {}
+        }
+    }
+    calls.sort_unstable();
+    let declared = ["sps_channel", "sps_check", "sps_counts", "sps_spread", "sps_trace"];
+    assert_eq!(calls, declared);
+}
+
 /// The header's names are those of Rust: `SPS_NO_SHOT = 13` is `Number::NoShot`.
 #[test]
 fn names_of_the_header() {
