@@ -19,7 +19,7 @@ use crate::points;
 use lines::Verdict;
 
 // The line of S, counted from 1, that holds the shot of line k; one more than the last where none does; 0 for a header line.
-fn place(s: &[u8], a: &[u64], x: &[u8], c: &[u64], k: usize) -> u64
+fn place(s: &[u8], a: &[u64], x: &[u8], c: &[u64], k: usize) -> u16
     requires { ⌜ KnownPoints 2 (now s) (now a) × ((Known 3 (now x) × HoldsRecords (now x) (now c)) × (k < file (now x) .count)) ⌝ }
     ensures value { λ n. ⌜ n ≡ placeOf (now (s .entry)) (now (x .entry)) k ⌝ }
 {
@@ -30,11 +30,11 @@ fn place(s: &[u8], a: &[u64], x: &[u8], c: &[u64], k: usize) -> u64
     let hi = rows::relation_number(x, k, 0);
     let lo = rows::relation_number(x, k, 1);
     let mark = rows::relation_number(x, k, 2);
-    tables::find_key(a, n, hi, lo, mark) as u64 + 1
+    tables::find_key(a, n, hi, lo, mark) as u16 + 1
 }
 
 // Writes the places of the shots of all lines into the first places of p.
-pub fn write_places(s: &[u8], a: &[u64], x: &[u8], c: &[u64], p: &mut [u64])
+pub fn write_places(s: &[u8], a: &[u64], x: &[u8], c: &[u64], p: &mut [u16])
     requires { ⌜ KnownPoints 2 (now s) (now a) × ((Known 3 (now x) × HoldsRecords (now x) (now c)) × (file (now x) .count ≤ length (now p))) ⌝ }
     ensures written { λ _. ⌜ now (p .exit) ≡ filled (placeOf (now (s .entry)) (now (x .entry))) (file (now (x .entry)) .count) (now (p .entry)) ⌝ }
 {
@@ -47,18 +47,18 @@ pub fn write_places(s: &[u8], a: &[u64], x: &[u8], c: &[u64], p: &mut [u64])
 }
 
 // 13 of relation line k.
-fn rule13(s: &[u8], x: &[u8], p: &[u64], k: usize) -> Verdict
+fn rule13(s: &[u8], x: &[u8], p: &[u16], k: usize) -> Verdict
     requires { ⌜ (Known 2 (now s) × (Known 3 (now x) × HoldsPlaces (now s) (now x) (now p))) × RelationLine (now x) k ⌝ }
     ensures verdict { λ v. ⌜ paper v ≡ run (rule13Of (file (now (s .entry))) (file (now (x .entry))) k) ⌝ }
 {
-    if p[k] <= lines::line_count(s) as u64 {
+    if p[k] <= lines::line_count(s) as u16 {
         return Verdict::Fine;
     }
     Verdict::Refused(13, 3, k as u32 + 1, 14)
 }
 
 // 14 of relation line k.
-fn rule14(s: &[u8], x: &[u8], p: &[u64], k: usize) -> Verdict
+fn rule14(s: &[u8], x: &[u8], p: &[u16], k: usize) -> Verdict
     requires { ⌜ (Known 3 (now x) × HoldsPlaces (now s) (now x) (now p)) × RelationLine (now x) k ⌝ }
     ensures verdict { λ v. ⌜ paper v ≡ run (rule14Of (file (now (s .entry))) (file (now (x .entry))) k) ⌝ }
 {
@@ -176,7 +176,7 @@ fn line_fits(
     x: &[u8],
     b: &[u64],
     c: &[u64],
-    p: &[u64],
+    p: &[u16],
     k: usize,
 ) -> Verdict
     requires { ⌜ (KnownReceivers (now r) (now a) × (Known 2 (now s) × HoldsPlaces (now s) (now x) (now p))) × (KnownRelations (now x) (now b) (now c) × RelationLine (now x) k) ⌝ }
@@ -205,7 +205,7 @@ fn relation_fits(
     x: &[u8],
     b: &[u64],
     c: &[u64],
-    p: &[u64],
+    p: &[u16],
     k: usize,
 ) -> Verdict
     requires { ⌜ (KnownReceivers (now r) (now a) × (Known 2 (now s) × HoldsPlaces (now s) (now x) (now p))) × (KnownRelations (now x) (now b) (now c) × (k < file (now x) .count)) ⌝ }
@@ -225,7 +225,7 @@ pub fn relations_fit(
     x: &[u8],
     b: &[u64],
     c: &[u64],
-    p: &[u64],
+    p: &[u16],
 ) -> Verdict
     requires { ⌜ (KnownReceivers (now r) (now a) × (Known 2 (now s) × HoldsPlaces (now s) (now x) (now p))) × KnownRelations (now x) (now b) (now c) ⌝ }
     ensures verdict { λ v. ⌜ paper v ≡ run (upTo (file (now (x .entry)) .count) (relationFits (file (now (r .entry))) (file (now (s .entry))) (file (now (x .entry))))) ⌝ }
@@ -243,7 +243,7 @@ pub fn relations_fit(
 }
 
 // 15 of line k of S.
-fn rule15(s: &[u8], x: &[u8], p: &[u64], k: usize) -> Verdict
+fn rule15(s: &[u8], x: &[u8], p: &[u16], k: usize) -> Verdict
     requires { ⌜ KnownShots (now s) × (HoldsPlaces (now s) (now x) (now p) × (k < file (now s) .count)) ⌝ }
     ensures verdict { λ v. ⌜ paper v ≡ run (rule15Of (file (now (s .entry))) (file (now (x .entry))) k) ⌝ }
 {
@@ -251,14 +251,14 @@ fn rule15(s: &[u8], x: &[u8], p: &[u64], k: usize) -> Verdict
         return Verdict::Fine;
     }
     let n = lines::line_count(x);
-    if tables::find_number(p, n, k as u64 + 1) < n {
+    if tables::find_place(p, n, k as u16 + 1) < n {
         return Verdict::Fine;
     }
     Verdict::Refused(15, 2, k as u32 + 1, 1)
 }
 
 // 15 over S.
-pub fn shots_named(s: &[u8], x: &[u8], p: &[u64]) -> Verdict
+pub fn shots_named(s: &[u8], x: &[u8], p: &[u16]) -> Verdict
     requires { ⌜ KnownShots (now s) × HoldsPlaces (now s) (now x) (now p) ⌝ }
     ensures verdict { λ v. ⌜ paper v ≡ run (upTo (file (now (s .entry)) .count) (rule15Of (file (now (s .entry))) (file (now (x .entry))))) ⌝ }
 {

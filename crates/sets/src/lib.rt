@@ -1,5 +1,5 @@
 // The set check: the form of R, S and X, the header rules, then the rules across the files, and the counts of an accepted set.
-// The numbers of the lines stand in arrays of this call, 0.72 MB of its stack; nothing is allocated.
+// The numbers of the lines stand in arrays of this call, 0.66 MB of its stack; nothing is allocated.
 ghost use mathlib.Core.Path.{_≡_};
 ghost use lib.ListN.{length};
 ghost use Rattle.rules.specs.Plan.{run, upTo, _before_};
@@ -48,7 +48,7 @@ fn verdict_across(
     x: &[u8],
     b: &[u64],
     c: &[u64],
-    p: &[u64],
+    p: &[u16],
 ) -> Verdict
     requires { ⌜ (KnownPoints 1 (now r) (now a) × (Known 2 (now s) × (verdictOf u ≡ run (upTo (file (now s) .count) (shotFits (file (now s))))))) × (KnownRelations (now x) (now b) (now c) × HoldsPlaces (now s) (now x) (now p)) ⌝ }
     ensures verdict { λ v. ⌜ verdictOf v ≡ run (acrossOf (now (r .entry)) (now (s .entry)) (now (x .entry))) ⌝ }
@@ -77,7 +77,7 @@ fn answer_across(
     x: &[u8],
     b: &[u64],
     c: &[u64],
-    p: &[u64],
+    p: &[u16],
 ) -> Answer
     requires { ⌜ ((KnownPoints 1 (now r) (now a) × (Known 2 (now s) × (verdictOf u ≡ run (upTo (file (now s) .count) (shotFits (file (now s))))))) × (KnownRelations (now x) (now b) (now c) × HoldsPlaces (now s) (now x) (now p))) × (shots ≡ pointsOf (file (now s))) ⌝ }
     ensures answer { λ v. ⌜ paper v ≡ answerOf (run (acrossOf (now (r .entry)) (now (s .entry)) (now (x .entry)))) (countsOf (now (r .entry)) (now (s .entry)) (now (x .entry))) ⌝ }
@@ -100,7 +100,7 @@ fn read(
     a: &mut [u64],
     b: &mut [u64],
     c: &mut [u64],
-    p: &mut [u64],
+    p: &mut [u16],
 ) -> Answer
     requires { ⌜ (Known 1 (now r) × (Known 2 (now s) × Known 3 (now x))) × ((length (now a) ≡ 29997) × ((length (now b) ≡ 39996) × ((length (now c) ≡ 9999) × (length (now p) ≡ 9999)))) ⌝ }
     ensures answer { λ v. ⌜ paper v ≡ answerOf (run (acrossOf (now (r .entry)) (now (s .entry)) (now (x .entry)))) (countsOf (now (r .entry)) (now (s .entry)) (now (x .entry))) ⌝ }
@@ -123,7 +123,7 @@ fn across(r: &[u8], s: &[u8], x: &[u8]) -> Answer
     let mut a = [0u64; 29997];
     let mut b = [0u64; 39996];
     let mut c = [0u64; 9999];
-    let mut p = [0u64; 9999];
+    let mut p = [0u16; 9999];
     read(r, s, x, &mut a, &mut b, &mut c, &mut p)
 }
 

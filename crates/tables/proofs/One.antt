@@ -9,6 +9,8 @@ use Rattle.tables.proofs.walk as walk
 use Rattle.tables.proofs.walk.Reads as walk-reads
 use Rattle.tables.proofs.find_number as find-number
 use Rattle.tables.proofs.find_number.Reads as find-number-reads
+use Rattle.tables.proofs.find_place as find-place
+use Rattle.tables.proofs.find_place.Reads as find-place-reads
 use Rattle.tables.proofs.find_taken as find-taken
 use Rattle.tables.proofs.find_taken.Reads as find-taken-reads
 
@@ -23,6 +25,9 @@ walk-one κs a v v′ w w′ p p′ = (p ∙ sym p′, refl)
 
 pub find-number-one : One find-number.ended find-number-reads.Post
 find-number-one κs a v v′ w w′ p p′ = (p ∙ sym p′, refl)
+
+pub find-place-one : One find-place.ended find-place-reads.Post
+find-place-one κs a v v′ w w′ p p′ = (p ∙ sym p′, refl)
 
 pub find-taken-one : One find-taken.ended find-taken-reads.Post
 find-taken-one κs a v v′ w w′ p p′ = (p ∙ sym p′, refl)

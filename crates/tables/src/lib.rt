@@ -91,6 +91,21 @@ pub fn find_number(a: &[u64], n: usize, v: u64) -> usize
     n
 }
 
+// The same among numbers of 16 bits.
+pub fn find_place(a: &[u16], n: usize, v: u16) -> usize
+    requires { ⌜ n ≤ length (now a) ⌝ }
+    ensures value { λ k. ⌜ k ≡ least n (λ j. eqb (getD (now (a .entry)) j 0) v) ⌝ }
+{
+    let mut j = 0;
+    while j < n {
+        if a[j] == v {
+            return j;
+        }
+        j += 1;
+    }
+    n
+}
+
 // Rows k and j have one name and index, and receivers in common. A mark tells its index by its remainder by 256.
 fn meets(b: &[u64], k: usize, j: usize) -> bool
     requires { ⌜ (4 * k + 3 < length (now b)) × (4 * j + 3 < length (now b)) ⌝ }

@@ -32,6 +32,12 @@ relation-number-requires-3 c κs = search needs
 find-key-requires : tie.Need-find-key-requires
 find-key-requires c κs = search needs
 
+cast-result : tie.Need-cast-result
+cast-result c =
+    let l = at-most _ _ _ (c .find-key .ensures) in
+    let n = c .before .before .before .before .line-count .ensures in
+    record { fits = omega arith }
+
 add-result : tie.Need-add-result
 add-result c =
     let l = at-most _ _ _ (c .find-key .ensures) in
@@ -58,5 +64,6 @@ place-spec =
     relation-number-requires-2
     relation-number-requires-3
     find-key-requires
+    cast-result
     add-result
     returns-2)

@@ -13,6 +13,9 @@ shared-slice-read-if1 c = search needs
 line-count-requires : tie.Need-line-count-requires
 line-count-requires c κs = search needs
 
+cast-if1 : tie.Need-cast-if1
+cast-if1 c = search needs
+
 returns : tie.Need-returns
 returns c =
     let x = c .before .before .before .before .before .before .args in
@@ -34,4 +37,4 @@ returns-2 c =
 pub rule13-spec : {M : Type 1} → statement M
 rule13-spec =
     tie.close
-    (tie.spec mul-if1 shared-slice-read-if1 line-count-requires returns cast-t11 add-t12 returns-2)
+    (tie.spec mul-if1 shared-slice-read-if1 line-count-requires cast-if1 returns cast-t11 add-t12 returns-2)
