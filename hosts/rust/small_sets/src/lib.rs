@@ -1,4 +1,5 @@
-//! Set A of the paper, edits of it, and one table of cases.
+//! Set A of the paper, edits of it, one table of cases, and the folders that
+//! programs are run on.
 //!
 //! A case is a set, a question and the answer that the paper gives, written by
 //! hand. The table depends on no reader, so that every entry can be held

@@ -1,6 +1,6 @@
 //! The folders of `crates/cases` against their builder and the naive reader.
 
-use small_sets::{one_fault, two_faults, Set};
+use small_sets::{one_fault, set_a, two_faults, File, Set};
 use std::collections::BTreeSet;
 use std::fs;
 use std::path::{Path, PathBuf};
@@ -37,6 +37,19 @@ fn files_are_as_built() {
 fn stdout_is_the_readers() {
     let stored = fs::read_to_string(spschk::root().join("crates/cases/stdout")).expect("stdout");
     assert_eq!(stored, spschk::stdout());
+}
+
+/// The set that the program itself is run on.
+#[test]
+fn the_programs_set_is_set_a() {
+    let program = spschk::root().join("crates/spschk");
+    for file in File::ALL {
+        let name = format!("set.{}01", file.letter().to_lowercase());
+        let stored = fs::read(program.join("data").join(&name)).expect("a file of set A");
+        assert!(stored == set_a().file(file), "{name} differs");
+    }
+    let stored = fs::read_to_string(program.join("stdout")).expect("stdout");
+    assert_eq!(stored, spschk::line(&set_a()));
 }
 
 /// The number that a set is refused for; `None` where it is accepted.

@@ -47,7 +47,7 @@ digits-byte-requires : (t : ℕ) → digits-lts.Need-byte-requires (
 ) (digits-at t) digits.Post
 digits-byte-requires t c κs =
     let a = c .before .before .before in
-    room-small (a .args .v) (a .args .n) (length (a .args .out .now)) (c .before .if1 .taken) (a .pre .1)
+    room-small (a .args .v) (a .args .n) (length (a .args .out .now)) (omega arith) (a .pre .1)
 
 digits-same-length : (t : ℕ) → digits-lts.Need-same-length (
   byte-reads.Asked,
@@ -65,7 +65,7 @@ digits-returns : (t : ℕ) → digits-lts.Need-returns (
 ) (digits-at t) digits.Post
 digits-returns t c =
     let a = c .before .before .before .before .before .before in
-    rw (decimal-small (a .args .v) (c .before .before .before .before .if1 .taken)) (c .before .before .byte .ensures)
+    rw (decimal-small (a .args .v) (omega arith)) (c .before .before .byte .ensures)
 
 digits-digits-requires : (t : ℕ) → digits-lts.Need-digits-requires (
   byte-reads.Asked,
@@ -75,7 +75,7 @@ digits-digits-requires : (t : ℕ) → digits-lts.Need-digits-requires (
 ) (digits-at t) digits.Post
 digits-digits-requires t c κs =
     let a = c .before .before .before in
-    let h : 10 ≤ a .args .v = c .before .if1 .left in
+    let h : 10 ≤ a .args .v = omega arith in
     (omega (arith, a .pre .0), omega (arith, room-more (a .args .v) (a .args .n) (length (a .args .out .now)) h (a .pre .1)))
 
 digits-cast-byte-2 : (t : ℕ) → digits-lts.Need-cast-byte-2 (
@@ -103,7 +103,7 @@ digits-byte-requires-2 : (t : ℕ) → digits-lts.Need-byte-requires-2 (
 digits-byte-requires-2 t c κs =
     let a = c .before .before .before .before .before .before .before in
     let call = c .before .before .before .digits in
-    omega (arith, room-more (a .args .v) (a .args .n) (length (a .args .out .now)) (c .before .before .before .before .before .if1 .left) (a .pre .1), call .ensures .ends, call .kept .1 .0)
+    omega (arith, room-more (a .args .v) (a .args .n) (length (a .args .out .now)) (omega arith) (a .pre .1), call .ensures .ends, call .kept .1 .0)
 
 digits-same-length-2 : (t : ℕ) → digits-lts.Need-same-length-2 (
   byte-reads.Asked,
@@ -121,7 +121,7 @@ digits-returns-2 : (t : ℕ) → digits-lts.Need-returns-2 (
 ) (digits-at t) digits.Post
 digits-returns-2 t c =
     let a = c .before .before .before .before .before .before .before .before .before .before in
-    rw (decimal-more (a .args .v) (c .before .before .before .before .before .before .before .before .if1 .left)) (then (c .before .before .before .before .before .before .digits .ensures) (c .before .before .byte2 .ensures))
+    rw (decimal-more (a .args .v) (omega arith)) (then (c .before .before .before .before .before .before .digits .ensures) (c .before .before .byte2 .ensures))
 
 pub +digits-spec : {M : Type 1} → statement M
 +digits-spec = close μ-digits λ t. digits-lts.spec (

@@ -126,7 +126,7 @@ fn what_cannot_be_read_is_no_file() {
 fn what_may_not_be_read_is_no_file() {
     let folder = Folder::of("mode_0", &set_a());
     let path = folder.path(S);
-    fs::set_permissions(&path, fs::Permissions::from_mode(0)).expect("a mode");
+    fs::set_permissions(&path, fs::Permissions::from_mode(0o000)).expect("a mode");
     if fs::File::open(&path).is_ok() {
         let note = "skipped: this user may read a file of mode 0\n";
         io::stderr().write_all(note.as_bytes()).expect("standard error");
