@@ -7,6 +7,8 @@ mod difference;
 mod entries;
 #[path = "../common/lent.rs"]
 mod lent;
+#[path = "../../../made.rs"]
+mod made;
 #[path = "../../../naive/tests/common/mod.rs"]
 mod naive_entry;
 #[path = "../common/program.rs"]
@@ -16,6 +18,7 @@ use difference::difference;
 use program::{folder, spswhy, write, NAMES};
 use small_sets::{table, Case, Question};
 use std::path::Path;
+use std::process::Command;
 
 /// The answers of each entry that answers more than verdicts.
 #[test]
@@ -37,11 +40,9 @@ fn each_call() {
     assert!(checks > 1_000 && questions > 150, "{checks} checks, {questions} questions");
 }
 
-/// A program's verdict line on the set in a folder; what else it says is no matter here.
-type Program = fn(&Path) -> Vec<u8>;
-
-/// Each case of the set check through a program that has room for so many bytes a file.
-fn entry(name: &str, most: usize, program: Program) {
+/// Each case of the set check through a program, which prints the verdict on the set of
+/// a folder and has room for so many bytes a file.
+fn entry(name: &str, most: usize, program: impl Fn(&Path) -> Vec<u8>) {
     let folder = folder(name);
     let fits = |case: &Case| {
         let longest = case.set.r.len().max(case.set.s.len()).max(case.set.x.len());
@@ -60,4 +61,13 @@ fn entry(name: &str, most: usize, program: Program) {
 #[test]
 fn the_command_for_a_person() {
     entry("table_spswhy", usize::MAX, |folder| spswhy(folder, &NAMES).stdout);
+}
+
+#[test]
+fn the_program() {
+    let root = made::root(env!("CARGO_MANIFEST_DIR"));
+    let spschk = made::made(&root, "bin/spschk", ["check", "spschk"]);
+    entry("table_spschk", 65_536, |folder| {
+        Command::new(&spschk).current_dir(folder).output().expect("spschk runs").stdout
+    });
 }

@@ -1,5 +1,8 @@
 //! The program `spschk` in folders, against the naive reader.
 
+#[allow(dead_code)]
+#[path = "../../../made.rs"]
+mod made;
 mod run;
 
 use run::Folder;

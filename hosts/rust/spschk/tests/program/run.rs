@@ -1,40 +1,18 @@
-//! The program, made where it is missing or older than the crates, and run in
-//! folders of cargo's temporary folder.
+//! The program, run in folders of cargo's temporary folder.
 
+use crate::made::made;
 use small_sets::{File, Set};
+use std::fs;
 use std::path::{Path, PathBuf};
 use std::process::Command;
 use std::sync::OnceLock;
-use std::time::SystemTime;
-use std::{fs, io};
 
 fn program() -> &'static Path {
     static PROGRAM: OnceLock<PathBuf> = OnceLock::new();
     PROGRAM.get_or_init(|| {
         let root = fs::canonicalize(spschk::root()).expect("a repository");
-        let program = root.join("target/bin/spschk");
-        let sources = [root.join("crates"), root.join("crates.txt")];
-        let newest = sources.iter().map(|path| newest(path).expect("the crates")).max();
-        let made = fs::metadata(&program).and_then(|program| program.modified()).ok();
-        if made.is_none() || made < newest {
-            let status = Command::new("rt").args(["check", "spschk"]).current_dir(&root).status();
-            let status = status.expect("rt, the Rattle toolchain, is on the path");
-            assert!(status.success(), "`rt check spschk` ended with {status}");
-        }
-        program
+        made(&root, "bin/spschk", ["check", "spschk"])
     })
-}
-
-/// When a file, or anything below a folder, last changed.
-fn newest(path: &Path) -> io::Result<SystemTime> {
-    let metadata = fs::metadata(path)?;
-    let mut last = metadata.modified()?;
-    if metadata.is_dir() {
-        for entry in fs::read_dir(path)? {
-            last = last.max(newest(&entry?.path())?);
-        }
-    }
-    Ok(last)
 }
 
 /// A folder that the program is run in.
