@@ -2,7 +2,7 @@
 // line has no room nothing is written; the answer is its length in either case. A line is made in an array of the call, then put over.
 ghost use mathlib.Core.Path.{_≡_};
 ghost use Prim.Native.Nat.{_≤_};
-ghost use mathlib.Core.List.{_∷_, []};
+ghost use mathlib.Core.List.{_∷_, [], _++_};
 ghost use lib.ListN.{length};
 ghost use Rattle.rules.specs.Text.{bytes};
 ghost use Rattle.rules.specs.Lines.{letter as letterOf};
@@ -87,25 +87,26 @@ pub fn verdict(a: Answer, out: &mut [u8]) -> usize
     n
 }
 
+// Says a word of a file, and the file's letter after it.
+fn of_file(word: &[u8], i: u8, out: &mut [u8]) -> usize
+    requires { ⌜ length (now word) ≤ 14 ⌝ }
+    ensures value { λ n. ⌜ n ≡ length (now (word .entry) ++ (letterOf i ∷ 10 ∷ [])) ⌝ }
+    ensures written { λ _. ⌜ now (out .exit) ≡ over (now (word .entry) ++ (letterOf i ∷ 10 ∷ [])) (now (out .entry)) ⌝ }
+{
+    let mut line = [0u8; 16];
+    let n = text::add(word, &mut line, 0);
+    let tail = [letter(i), b'\n'];
+    let m = text::add(&tail, &mut line, n);
+    place(&line[..m], out);
+    m
+}
+
 // Says that file i is missing.
 pub fn no_file(i: u8, out: &mut [u8]) -> usize
     ensures value { λ n. ⌜ n ≡ length (noFile i) ⌝ }
     ensures written { λ _. ⌜ now (out .exit) ≡ over (noFile i) (now (out .entry)) ⌝ }
 {
-    let line = [
-        b'N',
-        b'O',
-        b' ',
-        b'F',
-        b'I',
-        b'L',
-        b'E',
-        b' ',
-        letter(i),
-        b'\n',
-    ];
-    place(&line, out);
-    line.len()
+    of_file(b"NO FILE ", i, out)
 }
 
 // Says that file i is too long.
@@ -113,19 +114,5 @@ pub fn too_long(i: u8, out: &mut [u8]) -> usize
     ensures value { λ n. ⌜ n ≡ length (tooLong i) ⌝ }
     ensures written { λ _. ⌜ now (out .exit) ≡ over (tooLong i) (now (out .entry)) ⌝ }
 {
-    let line = [
-        b'T',
-        b'O',
-        b'O',
-        b' ',
-        b'L',
-        b'O',
-        b'N',
-        b'G',
-        b' ',
-        letter(i),
-        b'\n',
-    ];
-    place(&line, out);
-    line.len()
+    of_file(b"TOO LONG ", i, out)
 }
