@@ -4,7 +4,8 @@
 --   mark p i        = a point number and an index as one number, never 0
 --   pointMark l     = that of a receiver or a shot; 0 for any other line
 --   pointRow l      = the numbers of a point line: its name's two, and its mark
---   relationRow l   = those of a relation line: source name, shot, increment and instrument, receiver name, first and last receiver, channels
+--   relationRow l   = those of a relation line: source name, shot, increment and instrument, receiver name, first and last receiver,
+--                     channels
 --   recordOf l      = its tape and record as one number, never 0; 0 for a header line
 --   numberOf t f i  = number i of a file: of its point lines, of its relation lines those of their receivers, or of its records
 --   sizeOf t f      = how many there are
