@@ -1,6 +1,7 @@
 pub mod Lines
 pub mod Taken
-pub mod Seats
+pub mod Halves
+pub mod Ordered
 pub mod Reached
 pub mod Whole
 pub mod One

@@ -2,7 +2,6 @@
 use mathlib.Core.Path.{refl, sym, _∙_}
 use Rattle.outcome.specs.One.{One, both}
 use Rattle.spread.proofs.Taken.{one-taken}
-use Rattle.spread.proofs.Seats.{one-seated}
 use Rattle.spread.proofs.highest as highest
 use Rattle.spread.proofs.highest.Reads as highest-reads
 use Rattle.spread.proofs.fill as fill
@@ -17,8 +16,10 @@ use Rattle.spread.proofs.record.upto_of as upto-of
 use Rattle.spread.proofs.record.upto_of.Reads as upto-of-reads
 use Rattle.spread.proofs.places.clear as clear
 use Rattle.spread.proofs.places.clear.Reads as clear-reads
-use Rattle.spread.proofs.places.find_lines as find-lines
-use Rattle.spread.proofs.places.find_lines.Reads as find-lines-reads
+use Rattle.spread.proofs.seek.write_lasts as write-lasts
+use Rattle.spread.proofs.seek.write_lasts.Reads as write-lasts-reads
+use Rattle.spread.proofs.seek.find as find
+use Rattle.spread.proofs.seek.find.Reads as find-reads
 use Rattle.spread.proofs.places.put as put
 use Rattle.spread.proofs.places.put.Reads as put-reads
 
@@ -46,10 +47,12 @@ pub clear-one : One clear.ended clear-reads.Post
 clear-one κs a v v′ w w′ p p′ =
     (refl, both refl (both (one-taken _ _ _ _ _ (p .0) (p′ .0)) (both (one-taken _ _ _ _ _ (p .1) (p′ .1)) refl)))
 
-pub find-lines-one : One find-lines.ended find-lines-reads.Post
-find-lines-one κs a v v′ w w′ p p′ =
-    (refl, both refl (both refl (both refl (both refl (both refl (both refl (both (one-seated _ _ _ _ _ _ _ _ _ p p′) refl)))))))
+pub write-lasts-one : One write-lasts.ended write-lasts-reads.Post
+write-lasts-one κs a v v′ w w′ p p′ = (refl, both refl (both refl (both (p ∙ sym p′) refl)))
+
+pub find-one : One find.ended find-reads.Post
+find-one κs a v v′ w w′ p p′ = (p ∙ sym p′, refl)
 
 pub put-one : One put.ended put-reads.Post
 put-one κs a v v′ w w′ p p′ =
-    (refl, both refl (both refl (both refl (both refl (both (one-taken _ _ _ _ _ (p .0) (p′ .0)) (both (one-taken _ _ _ _ _ (p .1) (p′ .1)) refl))))))
+    (refl, both refl (both refl (both refl (both refl (both refl (both refl (both refl (both refl (both refl (both (one-taken _ _ _ _ _ (p .0) (p′ .0)) (both (one-taken _ _ _ _ _ (p .1) (p′ .1)) refl)))))))))))

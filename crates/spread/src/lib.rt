@@ -1,5 +1,5 @@
 // The spread table of a record: its highest covered channel, and the R line and component of each channel up to it, written into
-// two lent slices. The numbers of R's points and the R lines of one relation line's receivers stand in arrays of the call.
+// two lent slices. The numbers of R's points, and the last receiver up to each line of R, stand in arrays of the call.
 ghost use mathlib.Core.Path.{_≡_};
 ghost use mathlib.Core.Bool.{true};
 ghost use Prim.Native.Nat.{_*_, _≤_, _<_};
@@ -14,12 +14,14 @@ ghost use Rattle.rules.specs.Questions.{recordAsked};
 ghost use Rattle.rules.specs.Lookup.{found};
 ghost use Rattle.rules.specs.Spread.{highestOf, lineOf, componentOf, turns, place, bytePlace};
 ghost use Rattle.order.specs.Held.{HoldsPoints, RelationLine};
+ghost use Rattle.spread.specs.Halves.{HoldsLasts};
 ghost use Rattle.spread.specs.Takes.{TakeBoth, Room, here, hereUpTo, Accepted, lineIn, componentIn, lineAt, componentAt};
 use records::relation;
 use rows::Rows;
 
 mod places;
 mod record;
+mod seek;
 
 // The record's highest covered channel; 0 where the record is absent.
 pub fn highest(x: &[u8], t: &[u8], n: u64) -> u64
@@ -41,27 +43,30 @@ pub fn highest(x: &[u8], t: &[u8], n: u64) -> u64
     h
 }
 
-// Puts what relation line k leads its channels to. a holds the numbers of R's point lines; at takes the R lines of its receivers.
+// Puts what relation line k leads its channels to. a holds the numbers of R's point lines, at the last receiver up to each of them.
 fn put_reach(
     r: &[u8],
     s: &[u8],
     x: &[u8],
     a: &[u64],
+    at: &[u16],
     k: usize,
-    at: &mut [u16],
     lines: &mut [u16],
     components: &mut [u8],
 )
-    requires { ⌜ ((Accepted (now r) (now s) (now x) × HoldsPoints (now r) (now a)) × RelationLine (now x) k) × ((9999 ≤ length (now at)) × Room (reachAt (file (now x)) k .upto) (now lines) (now components)) ⌝ }
+    requires { ⌜ ((Accepted (now r) (now s) (now x) × (HoldsPoints (now r) (now a) × HoldsLasts (now r) (now at))) × RelationLine (now x) k) × Room (reachAt (file (now x)) k .upto) (now lines) (now components) ⌝ }
     ensures written { λ _. ⌜ TakeBoth (carries (reachAt (file (now (x .entry))) k)) (lineIn (now (r .entry)) (now (x .entry)) k) (componentIn (now (x .entry)) k) (now (lines .entry)) (now (lines .exit)) (now (components .entry)) (now (components .exit)) ⌝ }
 {
     let q = relation::reach_of(&lines::line_of(x, k));
     let name = q.receiver;
     let first = 256 * (q.from_receiver as u64) + q.receiver_index as u64 + 1;
-    let m = q.to_receiver as u64 + 1 - q.from_receiver as u64;
-    places::find_lines(a, lines::line_count(r), name.hi, name.lo, first, m, at);
     places::put(
+        a,
         at,
+        lines::line_count(r),
+        name.hi,
+        name.lo,
+        first,
         q.from as usize,
         q.upto as usize + 1,
         q.step as usize,
@@ -78,16 +83,16 @@ fn put_line(
     t: &[u8],
     n: u64,
     a: &[u64],
+    at: &[u16],
     k: usize,
-    at: &mut [u16],
     lines: &mut [u16],
     components: &mut [u8],
 )
-    requires { ⌜ ((Accepted (now r) (now s) (now x) × HoldsPoints (now r) (now a)) × ((k < file (now x) .count) × (length (now t) ≡ 6))) × ((9999 ≤ length (now at)) × Room (highestOf (file (now x)) (now t) n) (now lines) (now components)) ⌝ }
+    requires { ⌜ ((Accepted (now r) (now s) (now x) × (HoldsPoints (now r) (now a) × HoldsLasts (now r) (now at))) × ((k < file (now x) .count) × (length (now t) ≡ 6))) × Room (highestOf (file (now x)) (now t) n) (now lines) (now components) ⌝ }
     ensures written { λ _. ⌜ TakeBoth (here (now (x .entry)) (now (t .entry)) n k) (lineAt (now (r .entry)) (now (x .entry)) (now (t .entry)) n) (componentAt (now (r .entry)) (now (x .entry)) (now (t .entry)) n) (now (lines .entry)) (now (lines .exit)) (now (components .entry)) (now (components .exit)) ⌝ }
 {
     if record::of_record(x, k, t, n) {
-        put_reach(r, s, x, a, k, at, lines, components);
+        put_reach(r, s, x, a, at, k, lines, components);
     }
 }
 
@@ -99,22 +104,22 @@ fn put_lines(
     t: &[u8],
     n: u64,
     a: &[u64],
-    at: &mut [u16],
+    at: &[u16],
     lines: &mut [u16],
     components: &mut [u8],
 )
-    requires { ⌜ ((Accepted (now r) (now s) (now x) × HoldsPoints (now r) (now a)) × (length (now t) ≡ 6)) × ((9999 ≤ length (now at)) × Room (highestOf (file (now x)) (now t) n) (now lines) (now components)) ⌝ }
+    requires { ⌜ ((Accepted (now r) (now s) (now x) × (HoldsPoints (now r) (now a) × HoldsLasts (now r) (now at))) × (length (now t) ≡ 6)) × Room (highestOf (file (now x)) (now t) n) (now lines) (now components) ⌝ }
     ensures written { λ _. ⌜ TakeBoth (hereUpTo (now (x .entry)) (now (t .entry)) n (file (now (x .entry)) .count)) (lineAt (now (r .entry)) (now (x .entry)) (now (t .entry)) n) (componentAt (now (r .entry)) (now (x .entry)) (now (t .entry)) n) (now (lines .entry)) (now (lines .exit)) (now (components .entry)) (now (components .exit)) ⌝ }
 {
     let count = lines::line_count(x);
     let mut k = 0;
     while k < count {
-        put_line(r, s, x, t, n, a, k, at, lines, components);
+        put_line(r, s, x, t, n, a, at, k, lines, components);
         k += 1;
     }
 }
 
-// The same, from the text of R, whose numbers are read once into a.
+// The same, from the text of R, whose numbers are read once into a, and its receivers once into at.
 fn write(
     r: &[u8],
     s: &[u8],
@@ -130,11 +135,13 @@ fn write(
     ensures written { λ _. ⌜ TakeBoth (hereUpTo (now (x .entry)) (now (t .entry)) n (file (now (x .entry)) .count)) (lineAt (now (r .entry)) (now (x .entry)) (now (t .entry)) n) (componentAt (now (r .entry)) (now (x .entry)) (now (t .entry)) n) (now (lines .entry)) (now (lines .exit)) (now (components .entry)) (now (components .exit)) ⌝ }
 {
     rows::write(Rows::Points, r, a);
+    seek::write_lasts(r, a, at);
     put_lines(r, s, x, t, n, a, at, lines, components);
 }
 
 // Fills the spread table of an accepted set: place c - 1 takes the R line and the component of channel c, or 0 and 0, up to the
-// record's highest covered channel; later places stay. It takes one pass over X, and one over R for each relation line of the record.
+// record's highest covered channel; later places stay. It takes two passes over X and one over R, and finds the receiver of each channel
+// among R's lines by halves.
 pub fn fill(
     r: &[u8],
     s: &[u8],

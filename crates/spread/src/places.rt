@@ -1,10 +1,11 @@
-// The places of one relation line: the R lines of its receivers, and from them what its channels take.
+// The places of the channels of one relation line, and of all channels.
 ghost use mathlib.Core.Path.{_≡_};
 ghost use Prim.Native.Nat.{_+_, _-_, _*_, _/_, _%_, _≤_, _<_};
 ghost use lib.ListN.{length, getD};
 ghost use Rattle.rules.specs.Spread.{turns, bytePlace};
 ghost use Rattle.spread.specs.Takes.{between, TakeBoth, Room};
-ghost use Rattle.spread.specs.Seats.{Seat, AllThere, Seated};
+ghost use Rattle.spread.specs.Halves.{rowFrom, InOrder};
+use crate::seek;
 
 // Puts 0 at the first h places of both slices.
 pub fn clear(h: usize, lines: &mut [u16], components: &mut [u8])
@@ -19,65 +20,28 @@ pub fn clear(h: usize, lines: &mut [u16], components: &mut [u8])
     }
 }
 
-// Which of m receivers row j is, counted from 1; 0 where it is none of them. The first one has the mark first.
-fn seat(a: &[u64], j: usize, hi: u64, lo: u64, first: u64, m: u64) -> usize
-    requires { ⌜ 3 * j + 2 < length (now a) ⌝ }
-    ensures value { λ s. ⌜ Seat (now (a .entry)) hi lo first m j s ⌝ }
-{
-    if a[3 * j] != hi {
-        return 0;
-    }
-    if a[3 * j + 1] != lo {
-        return 0;
-    }
-    let mark = a[3 * j + 2];
-    if mark < first {
-        return 0;
-    }
-    let d = mark - first;
-    if d % 256 != 0 {
-        return 0;
-    }
-    if m <= d / 256 {
-        return 0;
-    }
-    (d / 256) as usize + 1
-}
-
-// Writes the R lines, counted from 1, of m receivers into the first places of at. It goes from the last row to the first, so that
-// the first row of a receiver stays.
-pub fn find_lines(a: &[u64], n: usize, hi: u64, lo: u64, first: u64, m: u64, at: &mut [u16])
-    requires { ⌜ ((3 * n ≤ length (now a)) × (n < 10000)) × ((m ≤ length (now at)) × AllThere (now a) hi lo first m n) ⌝ }
-    ensures written { λ _. ⌜ Seated (now (a .entry)) hi lo first m n (now (at .entry)) (now (at .exit)) ⌝ }
-{
-    let mut j = n;
-    while 0 < j {
-        let s = seat(a, j - 1, hi, lo, first, m);
-        if s != 0 {
-            at[s - 1] = j as u16;
-            j -= 1;
-        } else {
-            j -= 1;
-        }
-    }
-}
-
 // Puts the channels from `from` on and before `end`: each takes the R line of its receiver, and its component, of which a receiver has
-// `step`.
+// `step`. The first receiver has that name and the mark `first`.
 pub fn put(
+    a: &[u64],
     at: &[u16],
+    n: usize,
+    hi: u64,
+    lo: u64,
+    first: u64,
     from: usize,
     end: usize,
     step: usize,
     lines: &mut [u16],
     components: &mut [u8],
 )
-    requires { ⌜ ((1 ≤ from) × ((from ≤ end) × (end ≤ from + length (now at)))) × (((1 ≤ step) × (step ≤ 9)) × ((end ≤ length (now lines) + 1) × (end ≤ length (now components) + 1))) ⌝ }
-    ensures written { λ _. ⌜ TakeBoth (between from end) (λ c. getD (now (at .entry)) ((c - from) / step) 0) (λ c. (c - from) % step + 1) (now (lines .entry)) (now (lines .exit)) (now (components .entry)) (now (components .exit)) ⌝ }
+    requires { ⌜ (InOrder (now a) (now at) n × (first < 1099511627776)) × (((1 ≤ from) × ((from ≤ end) × (end ≤ 10000))) × (((1 ≤ step) × (step ≤ 9)) × ((end ≤ length (now lines) + 1) × (end ≤ length (now components) + 1)))) ⌝ }
+    ensures written { λ _. ⌜ TakeBoth (between from end) (λ c. rowFrom (now (a .entry)) (now (at .entry)) n hi lo (first + 256 * ((c - from) / step)) + 1) (λ c. (c - from) % step + 1) (now (lines .entry)) (now (lines .exit)) (now (components .entry)) (now (components .exit)) ⌝ }
 {
     let mut c = from;
     while c < end {
-        lines[c - 1] = at[(c - from) / step];
+        let d = (c - from) / step;
+        lines[c - 1] = seek::find(a, at, n, hi, lo, first + 256 * (d as u64)) as u16 + 1;
         components[c - 1] = ((c - from) % step) as u8 + 1;
         c += 1;
     }

@@ -11,11 +11,11 @@ of-record-requires c κs = search needs
 
 put-reach-requires : tie.Need-put-reach-requires
 put-reach-requires c κs =
-    let x = c .before .before .before .before .before .before .before .before .before .before .before .before .before .args in
-    let p = c .before .before .before .before .before .before .before .before .before .before .before .before .before .pre in
-    let b = c .before .before .before .before .of-record .ensures in
-    let y = c .before .before .before .if1 .taken in
-    ((p .0 .0, (p .0 .1 .0, relation-here (x .x .now) (x .t .now) (x .n) (x .k) (p .0 .1 .0) _ b y)), (p .1 .0, (room-here (x .x .now) (x .t .now) (x .n) (x .k) (p .0 .1 .0) _ b y _ (p .1 .1 .0), room-here (x .x .now) (x .t .now) (x .n) (x .k) (p .0 .1 .0) _ b y _ (p .1 .1 .1))))
+    let x = c .before .before .before .before .before .before .before .before .before .before .before .before .args in
+    let p = c .before .before .before .before .before .before .before .before .before .before .before .before .pre in
+    let b = c .before .before .before .of-record .ensures in
+    let y = c .before .before .if1 .taken in
+    ((p .0 .0, (p .0 .1 .0, relation-here (x .x .now) (x .t .now) (x .n) (x .k) (p .0 .1 .0) _ b y)), (room-here (x .x .now) (x .t .now) (x .n) (x .k) (p .0 .1 .0) _ b y _ (p .1 .0), room-here (x .x .now) (x .t .now) (x .n) (x .k) (p .0 .1 .0) _ b y _ (p .1 .1)))
 
 same-length : tie.Need-same-length
 same-length c = search needs
@@ -23,17 +23,14 @@ same-length c = search needs
 same-length-2 : tie.Need-same-length-2
 same-length-2 c = search needs
 
-same-length-3 : tie.Need-same-length-3
-same-length-3 c = search needs
-
 returns : tie.Need-returns
 unfolding lineOf componentOf
 returns c =
-    let x = c .before .before .before .before .before .before .before .before .before .before .before .before .before .before .before .before .before .before .before .before .args in
-    let p = c .before .before .before .before .before .before .before .before .before .before .before .before .before .before .before .before .before .before .before .before .pre in
-    let b = c .before .before .before .before .before .before .before .before .before .before .before .of-record .ensures in
-    let y = c .before .before .before .before .before .before .before .before .before .before .if1 .taken in
-    let w = c .before .before .before .before .before .before .put-reach .ensures in
+    let x = c .before .before .before .before .before .before .before .before .before .before .before .before .before .before .before .before .before .args in
+    let p = c .before .before .before .before .before .before .before .before .before .before .before .before .before .before .before .before .before .pre in
+    let b = c .before .before .before .before .before .before .before .before .of-record .ensures in
+    let y = c .before .before .before .before .before .before .before .if1 .taken in
+    let w = c .before .before .before .before .put-reach .ensures in
     let ok = p .0 .0 .0 in
     (taken-here (x .x .now) (x .t .now) (x .n) (x .k) (p .0 .1 .0) _ b y (x .r .now) (x .s .now) ok lineOf _ (λ c. refl) _ _ (w .0), taken-here (x .x .now) (x .t .now) (x .n) (x .k) (p .0 .1 .0) _ b y (x .r .now) (x .s .now) ok componentOf _ (λ c. refl) _ _ (w .1))
 
@@ -52,6 +49,5 @@ put-line-spec =
     put-reach-requires
     same-length
     same-length-2
-    same-length-3
     returns
     returns-2)

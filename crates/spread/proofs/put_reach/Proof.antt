@@ -1,5 +1,5 @@
 -- `spread::put_reach` meets its contract. Assumes nothing.
-use Rattle.spread.proofs.Reached.{all-there, coded-is, components-taken, known-r, lines-taken, ranges}
+use Rattle.spread.proofs.Reached.{coded-is, components-taken, lines-taken, ordered, ranges}
 use Rattle.records.specs.declared.relation.Reach.{Reach}
 use borrow.Author.Needs.{needs}
 use mathlib.Core.Path.{ap}
@@ -28,37 +28,8 @@ add-first c = search needs
 add-first-2 : tie.Need-add-first-2
 add-first-2 c = search needs
 
-cast-m : tie.Need-cast-m
-cast-m c = search needs
-
-add-m : tie.Need-add-m
-add-m c = search needs
-
-cast-m-2 : tie.Need-cast-m-2
-cast-m-2 c = search needs
-
-sub-m : tie.Need-sub-m
-sub-m c =
-    let x = c .before .before .before .before .before .before .before .before .before .before .before .before .before .before .before .args in
-    let p = c .before .before .before .before .before .before .before .before .before .before .before .before .before .before .before .pre in
-    let e = coded-is (x .x .now) _ (x .k) _ (c .before .before .before .before .before .before .before .line-of .ensures) (c .before .before .before .before .before .reach-of .ensures) in
-    let w = ranges (x .r .now) (x .s .now) (x .x .now) (x .a .now) (p .0 .0 .0) (p .0 .0 .1) (x .k) (p .0 .1 .0) (p .0 .1 .1) _ e in
-    omega arith
-
 line-count-requires : tie.Need-line-count-requires
 line-count-requires c κs = search needs
-
-find-lines-requires : tie.Need-find-lines-requires
-find-lines-requires c κs =
-    let x = c .before .before .before .before .before .before .before .before .before .before .before .before .before .before .before .before .before .args in
-    let p = c .before .before .before .before .before .before .before .before .before .before .before .before .before .before .before .before .before .pre in
-    let e = coded-is (x .x .now) _ (x .k) _ (c .before .before .before .before .before .before .before .before .before .line-of .ensures) (c .before .before .before .before .before .before .before .reach-of .ensures) in
-    let w = ranges (x .r .now) (x .s .now) (x .x .now) (x .a .now) (p .0 .0 .0) (p .0 .0 .1) (x .k) (p .0 .1 .0) (p .0 .1 .1) _ e in
-    let n = c .before .line-count .ensures in
-    let k = known-r (x .r .now) (x .s .now) (x .x .now) (p .0 .0 .0) .0 in
-    let h = p .0 .0 .1 .0 in
-    let o = p .1 .0 in
-    ((omega arith, omega arith), (omega arith, rw n (all-there (x .r .now) (x .s .now) (x .x .now) (x .a .now) (p .0 .0 .0) (p .0 .0 .1) (x .k) (p .0 .1 .0) (p .0 .1 .1) _ e)))
 
 cast-put : tie.Need-cast-put
 cast-put c = search needs
@@ -74,12 +45,14 @@ cast-put-3 c = search needs
 
 put-requires : tie.Need-put-requires
 put-requires c κs =
-    let x = c .before .before .before .before .before .before .before .before .before .before .before .before .before .before .before .before .before .before .before .before .before .before .before .before .before .before .args in
-    let p = c .before .before .before .before .before .before .before .before .before .before .before .before .before .before .before .before .before .before .before .before .before .before .before .before .before .before .pre in
-    let e = coded-is (x .x .now) _ (x .k) _ (c .before .before .before .before .before .before .before .before .before .before .before .before .before .before .before .before .before .before .line-of .ensures) (c .before .before .before .before .before .before .before .before .before .before .before .before .before .before .before .before .reach-of .ensures) in
-    let w = ranges (x .r .now) (x .s .now) (x .x .now) (x .a .now) (p .0 .0 .0) (p .0 .0 .1) (x .k) (p .0 .1 .0) (p .0 .1 .1) _ e in
+    let x = c .before .before .before .before .before .before .before .before .before .before .before .before .before .before .before .before .before .before .before .args in
+    let p = c .before .before .before .before .before .before .before .before .before .before .before .before .before .before .before .before .before .before .before .pre in
+    let e = coded-is (x .x .now) _ (x .k) _ (c .before .before .before .before .before .before .before .before .before .before .before .line-of .ensures) (c .before .before .before .before .before .before .before .before .before .reach-of .ensures) in
+    let w = ranges (x .r .now) (x .s .now) (x .x .now) (x .a .now) (x .at .now) (p .0 .0 .0) (p .0 .0 .1 .0) (p .0 .0 .1 .1) (x .k) (p .0 .1 .0) (p .0 .1 .1) _ e in
+    let o = ordered (x .r .now) (x .s .now) (x .x .now) (x .a .now) (x .at .now) (p .0 .0 .0) (p .0 .0 .1 .0) (p .0 .0 .1 .1) (x .k) (p .0 .1 .0) (p .0 .1 .1) in
+    let n = c .before .before .before .before .before .line-count .ensures in
     let u = ap (λ (q : Reach). q .upto) e in
-    ((omega arith, (omega arith, omega arith)), ((omega arith, omega arith), (omega arith, omega arith)))
+    ((rw n o, w .mark), ((omega arith, (omega arith, omega arith)), ((omega arith, omega arith), (omega arith, omega arith))))
 
 same-length : tie.Need-same-length
 same-length c = search needs
@@ -87,18 +60,14 @@ same-length c = search needs
 same-length-2 : tie.Need-same-length-2
 same-length-2 c = search needs
 
-same-length-3 : tie.Need-same-length-3
-same-length-3 c = search needs
-
 returns : tie.Need-returns
 returns c =
-    let x = c .before .before .before .before .before .before .before .before .before .before .before .before .before .before .before .before .before .before .before .before .before .before .before .before .before .before .before .before .before .before .before .args in
-    let p = c .before .before .before .before .before .before .before .before .before .before .before .before .before .before .before .before .before .before .before .before .before .before .before .before .before .before .before .before .before .before .before .pre in
-    let e = coded-is (x .x .now) _ (x .k) _ (c .before .before .before .before .before .before .before .before .before .before .before .before .before .before .before .before .before .before .before .before .before .before .before .line-of .ensures) (c .before .before .before .before .before .before .before .before .before .before .before .before .before .before .before .before .before .before .before .before .before .reach-of .ensures) in
-    let n = c .before .before .before .before .before .before .before .before .before .before .before .before .before .before .before .line-count .ensures in
-    let l = c .before .before .before .before .before .before .before .before .before .before .before .before .before .find-lines .ensures in
+    let x = c .before .before .before .before .before .before .before .before .before .before .before .before .before .before .before .before .before .before .before .before .before .before .before .before .args in
+    let p = c .before .before .before .before .before .before .before .before .before .before .before .before .before .before .before .before .before .before .before .before .before .before .before .before .pre in
+    let e = coded-is (x .x .now) _ (x .k) _ (c .before .before .before .before .before .before .before .before .before .before .before .before .before .before .before .before .line-of .ensures) (c .before .before .before .before .before .before .before .before .before .before .before .before .before .before .reach-of .ensures) in
+    let n = c .before .before .before .before .before .before .before .before .before .before .line-count .ensures in
     let w = c .before .before .before .before .put .ensures in
-    (lines-taken (x .r .now) (x .s .now) (x .x .now) (x .a .now) (p .0 .0 .0) (p .0 .0 .1) (x .k) (p .0 .1 .0) (p .0 .1 .1) _ e _ _ _ _ (rw n at l) (w .0), components-taken (x .r .now) (x .s .now) (x .x .now) (x .a .now) (p .0 .0 .0) (p .0 .0 .1) (x .k) (p .0 .1 .0) (p .0 .1 .1) _ e _ _ (w .1))
+    (lines-taken (x .r .now) (x .s .now) (x .x .now) (x .a .now) (x .at .now) (p .0 .0 .0) (p .0 .0 .1 .0) (p .0 .0 .1 .1) (x .k) (p .0 .1 .0) (p .0 .1 .1) _ e _ _ (rw n at (w .0)), components-taken (x .r .now) (x .s .now) (x .x .now) (x .a .now) (x .at .now) (p .0 .0 .0) (p .0 .0 .1 .0) (p .0 .0 .1 .1) (x .k) (p .0 .1 .0) (p .0 .1 .1) _ e _ _ (w .1))
 
 pub put-reach-spec : {M : Type 1} → statement M
 put-reach-spec =
@@ -111,12 +80,7 @@ put-reach-spec =
     cast-first-2
     add-first
     add-first-2
-    cast-m
-    add-m
-    cast-m-2
-    sub-m
     line-count-requires
-    find-lines-requires
     cast-put
     cast-put-2
     add-put
@@ -124,5 +88,4 @@ put-reach-spec =
     put-requires
     same-length
     same-length-2
-    same-length-3
     returns)

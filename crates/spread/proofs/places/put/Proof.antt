@@ -1,54 +1,71 @@
 -- `spread::places::put` meets its contract. Assumes nothing.
-use Prim.Native.Nat.{_%_, _+_, _-_, _/_, _≤_}
+use Prim.Native.Nat.{_%_, _*_, _+_, _-_, _/_, _≤_, ℕ}
+use Rattle.spread.proofs.Halves.{few-rows}
 use Rattle.spread.proofs.Taken.{takes-none, takes-one}
+use Rattle.spread.specs.Halves.{rowFrom}
 use Rattle.spread.specs.Takes.{Takes, between}
 use borrow.Author.Needs.{needs}
-use lib.ListN.{getD}
-use mathlib.Core.Path.{_≡_, refl}
+use mathlib.Core.Path.{_≡_, ap, refl}
 use native.Mathlib.Nat.{div-le-self, mod-lt}
 use native.Mathlib.Omega.{arith}
 use Rattle.spread.proofs.places.put.Statement.{statement}
 use Rattle.spread.proofs.places.put.Tie as tie
 
 abbrev Inv-loop : tie.InvT-loop
-Inv-loop at from end step lines₀ components₀ c₀ lines components c = (from ≤ c) × ((c ≤ end) × (Takes (between from c) (λ e. getD at ((e - from) / step) 0) lines₀ lines × Takes (between from c) (λ e. (e - from) % step + 1) components₀ components))
+Inv-loop a at n hi lo first from end step lines₀ components₀ c₀ lines components c =
+    (from ≤ c)
+    × ((c ≤ end)
+    × (Takes (between from c) (λ e. rowFrom a at n hi lo (first + 256 * ((e - from) / step)) + 1) lines₀ lines
+    × Takes (between from c) (λ e. (e - from) % step + 1) components₀ components))
 
 abbrev μ-loop : tie.MeasureT-loop
-μ-loop at from end step lines₀ components₀ c₀ lines components c = end - c
+μ-loop a at n hi lo first from end step lines₀ components₀ c₀ lines components c = end - c
 
 loop-holds : tie.Need-loop-holds Inv-loop μ-loop
 loop-holds c = (omega arith, (omega arith, (takes-none _ _ _, takes-none _ _ _)))
 
-sub-lines : tie.Need-sub-lines Inv-loop μ-loop
-sub-lines c = search needs
+sub-d : tie.Need-sub-d Inv-loop μ-loop
+sub-d c = search needs
 
-div-lines : tie.Need-div-lines Inv-loop μ-loop
-div-lines c = search needs
+div-d : tie.Need-div-d Inv-loop μ-loop
+div-d c = search needs
 
-mul-lines : tie.Need-mul-lines Inv-loop μ-loop
-mul-lines c =
-    let a = c .before .before .args in
+mul-find : tie.Need-mul-find Inv-loop μ-loop
+mul-find c =
+    let a = c .before .before .before .before .before .before .args in
     let at = c .before .loop in
     let l = div-le-self (at .c - a .from) (a .step) in
     omega arith
 
-shared-slice-read-lines : tie.Need-shared-slice-read-lines Inv-loop μ-loop
-shared-slice-read-lines c =
-    let a = c .before .before .before .args in
-    let at = c .before .before .loop in
+add-find : tie.Need-add-find Inv-loop μ-loop
+add-find c =
+    let a = c .before .before .before .before .before .before .args in
+    let at = c .before .loop in
     let l = div-le-self (at .c - a .from) (a .step) in
     omega arith
 
-sub-lines-2 : tie.Need-sub-lines-2 Inv-loop μ-loop
-sub-lines-2 c = search needs
+find-requires : tie.Need-find-requires Inv-loop μ-loop
+find-requires c κs = c .before .before .before .before .before .before .pre .0 .0
 
-mul-lines-2 : tie.Need-mul-lines-2 Inv-loop μ-loop
-mul-lines-2 c = search needs
+cast-lines : tie.Need-cast-lines Inv-loop μ-loop
+cast-lines c =
+    let l = few-rows _ _ _ _ _ _ _ (c .before .before .before .before .before .before .before .pre .0 .0) (c .find .ensures) in
+    omega arith
+
+add-lines : tie.Need-add-lines Inv-loop μ-loop
+add-lines c =
+    let l = few-rows _ _ _ _ _ _ _ (c .before .before .before .before .before .before .before .pre .0 .0) (c .find .ensures) in
+    omega arith
+
+sub-lines : tie.Need-sub-lines Inv-loop μ-loop
+sub-lines c = search needs
+
+mul-lines : tie.Need-mul-lines Inv-loop μ-loop
+mul-lines c = search needs
 
 slice-write-lines : tie.Need-slice-write-lines Inv-loop μ-loop
 slice-write-lines c =
     let n = c .before .before .loop .inv .1 .1 .0 .size in
-    let m = c .before .before .loop .inv .1 .1 .1 .size in
     omega arith
 
 sub-components : tie.Need-sub-components Inv-loop μ-loop
@@ -59,14 +76,14 @@ rem-components c = search needs
 
 cast-components : tie.Need-cast-components Inv-loop μ-loop
 cast-components c =
-    let a = c .before .before .before .args in
+    let a = c .before .before .before .before .before .before .before .args in
     let at = c .before .before .loop in
     let l = mod-lt (at .c - a .from) {m = a .step} (omega arith) in
     omega arith
 
 add-components : tie.Need-add-components Inv-loop μ-loop
 add-components c =
-    let a = c .before .before .before .args in
+    let a = c .before .before .before .before .before .before .before .args in
     let at = c .before .before .loop in
     let l = mod-lt (at .c - a .from) {m = a .step} (omega arith) in
     omega arith
@@ -76,8 +93,7 @@ sub-components-2 c = search needs
 
 slice-write-components : tie.Need-slice-write-components Inv-loop μ-loop
 slice-write-components c =
-    let n = c .before .before .loop .inv .1 .1 .0 .size in
-    let m = c .before .before .loop .inv .1 .1 .1 .size in
+    let n = c .before .before .loop .inv .1 .1 .1 .size in
     omega arith
 
 add-c : tie.Need-add-c Inv-loop μ-loop
@@ -95,7 +111,7 @@ loop-again c =
       (
         omega arith,
         (
-          takes-one _ _ _ _ _ (omega arith) refl (omega arith) _ _ (omega arith) (at .inv .1 .1 .0) _ refl,
+          takes-one _ _ _ _ _ (omega arith) refl (omega arith) _ _ (omega arith) (at .inv .1 .1 .0) _ (ap (λ (k : ℕ). k + 1) (c .find .ensures)),
           takes-one _ _ _ _ _ (omega arith) refl (omega arith) _ _ (omega arith) (at .inv .1 .1 .1) _ refl,
         ),
       ),
@@ -110,7 +126,7 @@ same-length-2 c = c .before .loop .inv .1 .1 .1 .size
 returns : tie.Need-returns Inv-loop μ-loop
 returns c =
     let at = c .before .loop in
-    let e : at .c ≡ c .before .before .args .end = omega arith in
+    let e : at .c ≡ c .before .before .before .before .before .before .args .end = omega arith in
     (rw (← e) (at .inv .1 .1 .0), rw (← e) (at .inv .1 .1 .1))
 
 pub put-spec : {M : Type 1} → statement M
@@ -120,12 +136,15 @@ put-spec =
     Inv-loop
     μ-loop
     loop-holds
+    sub-d
+    div-d
+    mul-find
+    add-find
+    find-requires
+    cast-lines
+    add-lines
     sub-lines
-    div-lines
     mul-lines
-    shared-slice-read-lines
-    sub-lines-2
-    mul-lines-2
     slice-write-lines
     sub-components
     rem-components
