@@ -1,5 +1,5 @@
-// The sets of the folders that the file `names` lists, a name to a line: for each its name, a blank and the line that `spschk` prints
-// in it. Every refusal number of the set check has a folder but 2, whose 10,000 lines are above the buffer.
+// The sets of the folders that the file `names` lists, a name to a line: for each its name, a blank and the line of its verdict. Every
+// refusal number of the set check has a folder; for 2, which takes 10,000 lines, the buffer of R has room for them and a line more.
 ghost use mathlib.Core.Path.{_≡_};
 ghost use Prim.Native.Nat.{_≤_};
 ghost use lib.ListN.{length};
@@ -45,7 +45,17 @@ fn one(folder: &[u8]) {
     let c = path(folder, b"/set.x01", &mut x);
     io::write_all(STDOUT_FILENO, folder);
     io::write_all(STDOUT_FILENO, b" ");
-    files::print(&r[..a], &s[..b], &x[..c]);
+    let mut large = [0u8; 820082];
+    let mut second = io::large_buffer();
+    let mut third = io::large_buffer();
+    files::print(
+        &r[..a],
+        &s[..b],
+        &x[..c],
+        &mut large,
+        &mut second,
+        &mut third,
+    );
 }
 
 // The lines of all folders.

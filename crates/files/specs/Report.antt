@@ -4,7 +4,7 @@
 --   fault n i            = the line of file n where it cannot be used; none where it can
 --   f orElse g           = f, or g where f is none
 --   report i r j s k x   = the line of three files, of which i, j and k were found, with their bytes in r, s and x
---   Told o o′ n          = o′ is o with the line of some three files, n bytes, in its first places
+--   Told r s x o o′ n    = o′ is o with the line of three files, n bytes, in its first places; what was read of them stands in r, s, x
 use Prim.Native.Nat.{ℕ, _≤_}
 use mathlib.Core.Path.{_≡_}
 use mathlib.Core.List.{List, [], _∷_}
@@ -40,14 +40,10 @@ report i r j s k x =
     fault fileR i orElse fault fileS j orElse fault fileX k
     orElse line (check (file (part i r)) (file (part j s)) (file (part k x)))
 
-pub record Told (o o′ : List ℕ) (n : ℕ) : Type 0 where
+pub record Told (r s x o o′ : List ℕ) (n : ℕ) : Type 0 where
   pub i : Input
   pub j : Input
   pub k : Input
-  pub r : List ℕ
-  pub s : List ℕ
-  pub x : List ℕ
   pub fits : (sizeOf i ≤ length r) × ((sizeOf j ≤ length s) × (sizeOf k ≤ length x))
-  pub rooms : (length r ≡ 65536) × ((length s ≡ 65536) × (length x ≡ 65536))
   pub value : n ≡ length (report i r j s k x)
   pub written : o′ ≡ over (report i r j s k x) o

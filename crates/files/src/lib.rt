@@ -1,4 +1,4 @@
-// The files of a set: each is read into a buffer of 65,536 bytes, and one line says what they are. Of what is read or printed no
+// The files of a set: each is read into a lent buffer, and one line says what they are. Of what is read or printed no
 // contract can speak; so `report` says all of it on slices, `tell` only reads and hands over to it, and `print` only prints.
 ghost use mathlib.Core.Path.{_≡_};
 ghost use Prim.Native.Nat.{_≤_};
@@ -109,23 +109,28 @@ pub fn report(i: Input, r: &[u8], j: Input, s: &[u8], k: Input, x: &[u8], out: &
     words::verdict(sets::check(part(i, r), part(j, s), part(k, x)), out)
 }
 
-// Reads the files at three paths and says what they are.
-pub fn tell(r: &[u8], s: &[u8], x: &[u8], out: &mut [u8]) -> usize
-    ensures told { λ n. ⌜ Told (now (out .entry)) (now (out .exit)) n ⌝ }
+// Reads the files at three paths into lent buffers and says what they are.
+pub fn tell(
+    r: &[u8],
+    s: &[u8],
+    x: &[u8],
+    a: &mut [u8],
+    b: &mut [u8],
+    c: &mut [u8],
+    out: &mut [u8],
+) -> usize
+    ensures told { λ n. ⌜ Told (now (a .exit)) (now (b .exit)) (now (c .exit)) (now (out .entry)) (now (out .exit)) n ⌝ }
     ensures small { λ n. ⌜ n ≤ 93 ⌝ }
 {
-    let mut a = io::large_buffer();
-    let mut b = io::large_buffer();
-    let mut c = io::large_buffer();
-    let i = load(r, &mut a);
-    let j = load(s, &mut b);
-    let k = load(x, &mut c);
-    report(i, &a, j, &b, k, &c, out)
+    let i = load(r, a);
+    let j = load(s, b);
+    let k = load(x, c);
+    report(i, a, j, b, k, c, out)
 }
 
-// Prints the line of the files at three paths.
-pub fn print(r: &[u8], s: &[u8], x: &[u8]) {
+// Prints the line of the files at three paths, read into lent buffers.
+pub fn print(r: &[u8], s: &[u8], x: &[u8], a: &mut [u8], b: &mut [u8], c: &mut [u8]) {
     let mut line = [0u8; 96];
-    let n = tell(r, s, x, &mut line);
+    let n = tell(r, s, x, a, b, c, &mut line);
     io::write_all(libc::STDOUT_FILENO, &line[..n]);
 }

@@ -1,4 +1,7 @@
-// The program: one line, on standard output, on the set in the current folder.
+// The program: one line, on standard output, on the set in the current folder, read into buffers of 65,536 bytes.
 fn main() {
-    files::print(b"set.r01", b"set.s01", b"set.x01");
+    let mut r = io::large_buffer();
+    let mut s = io::large_buffer();
+    let mut x = io::large_buffer();
+    files::print(b"set.r01", b"set.s01", b"set.x01", &mut r, &mut s, &mut x);
 }

@@ -1,8 +1,10 @@
 -- `cases::one` meets its contract. Assumes nothing.
+use Prim.Native.Nat.{ℕ}
+use borrow.Author.Needs.{needs}
+use lib.ListN.{length-replicate}
+use lib.Seq.{length-take-le}
 use mathlib.Core.Path.{sym}
 use native.Mathlib.Omega.{arith}
-use lib.Seq.{length-take-le}
-use borrow.Author.Needs.{needs}
 use Rattle.cases.proofs.one.Statement.{statement}
 use Rattle.cases.proofs.one.Tie as tie
 
@@ -33,12 +35,18 @@ slice-aggregate-write-all c = search needs
 write-all-requires-2 : tie.Need-write-all-requires-2
 write-all-requires-2 c κs = search needs
 
+large-buffer-requires : tie.Need-large-buffer-requires
+large-buffer-requires c κs = search needs
+
+large-buffer-requires-2 : tie.Need-large-buffer-requires-2
+large-buffer-requires-2 c κs = search needs
+
 array-share-prefix-r : tie.Need-array-share-prefix-r
 array-share-prefix-r c = search needs
 
 slice-aggregate-print : tie.Need-slice-aggregate-print
 slice-aggregate-print c =
-    let t = c .before .before .before .before .before .before .before .before .before .before .before .before .before .path in
+    let t = c .before .before .before .before .before .before .before .before .before .before .before .before .before .before .before .path in
     sym (length-take-le (t .result) (t .last .1 .1 .0) (omega (arith, t .ensures, t .kept .1 .1 .0)))
 
 array-share-prefix-s : tie.Need-array-share-prefix-s
@@ -46,7 +54,7 @@ array-share-prefix-s c = search needs
 
 slice-aggregate-print-2 : tie.Need-slice-aggregate-print-2
 slice-aggregate-print-2 c =
-    let t = c .before .before .before .before .before .before .before .before .before .before .path2 in
+    let t = c .before .before .before .before .before .before .before .before .before .before .before .before .path2 in
     sym (length-take-le (t .result) (t .last .1 .1 .0) (omega (arith, t .ensures, t .kept .1 .1 .0)))
 
 array-share-prefix-x : tie.Need-array-share-prefix-x
@@ -54,8 +62,17 @@ array-share-prefix-x c = search needs
 
 slice-aggregate-print-3 : tie.Need-slice-aggregate-print-3
 slice-aggregate-print-3 c =
-    let t = c .before .before .before .before .before .before .before .path3 in
+    let t = c .before .before .before .before .before .before .before .before .before .path3 in
     sym (length-take-le (t .result) (t .last .1 .1 .0) (omega (arith, t .ensures, t .kept .1 .1 .0)))
+
+slice-aggregate-print-4 : tie.Need-slice-aggregate-print-4
+slice-aggregate-print-4 c = sym (length-replicate {A = ℕ} 820082 0)
+
+slice-aggregate-print-5 : tie.Need-slice-aggregate-print-5
+slice-aggregate-print-5 c = search needs
+
+slice-aggregate-print-6 : tie.Need-slice-aggregate-print-6
+slice-aggregate-print-6 c = search needs
 
 print-requires : tie.Need-print-requires
 print-requires c κs = search needs
@@ -76,11 +93,16 @@ one-spec =
     write-all-requires
     slice-aggregate-write-all
     write-all-requires-2
+    large-buffer-requires
+    large-buffer-requires-2
     array-share-prefix-r
     slice-aggregate-print
     array-share-prefix-s
     slice-aggregate-print-2
     array-share-prefix-x
     slice-aggregate-print-3
+    slice-aggregate-print-4
+    slice-aggregate-print-5
+    slice-aggregate-print-6
     print-requires
     returns)

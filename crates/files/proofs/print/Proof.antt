@@ -1,8 +1,8 @@
 -- `files::print` meets its contract. Assumes nothing.
+use borrow.Author.Needs.{needs}
+use lib.Seq.{length-take-le}
 use mathlib.Core.Path.{sym}
 use native.Mathlib.Omega.{arith}
-use lib.Seq.{length-take-le}
-use borrow.Author.Needs.{needs}
 use Rattle.files.proofs.print.Statement.{statement}
 use Rattle.files.proofs.print.Tie as tie
 
@@ -17,11 +17,20 @@ array-share-prefix-line c = search needs
 
 slice-aggregate-write-all : tie.Need-slice-aggregate-write-all
 slice-aggregate-write-all c =
-    let t = c .before .before .tell in
-    sym (length-take-le (t .result) (t .last .1 .1 .1 .0) (omega (arith, t .ensures .1, t .kept .1 .1 .1 .0)))
+    let t = c .before .before .before .before .before .before .before .before .tell in
+    sym (length-take-le (t .result) (t .last .1 .1 .1 .1 .1 .1 .0) (omega (arith, t .ensures .1, t .kept .1 .1 .1 .1 .1 .1 .0)))
 
 write-all-requires : tie.Need-write-all-requires
 write-all-requires c κs = search needs
+
+same-length : tie.Need-same-length
+same-length c = search needs
+
+same-length-2 : tie.Need-same-length-2
+same-length-2 c = search needs
+
+same-length-3 : tie.Need-same-length-3
+same-length-3 c = search needs
 
 returns : tie.Need-returns
 returns c = search needs
@@ -35,4 +44,7 @@ print-spec =
     array-share-prefix-line
     slice-aggregate-write-all
     write-all-requires
+    same-length
+    same-length-2
+    same-length-3
     returns)

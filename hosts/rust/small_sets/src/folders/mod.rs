@@ -1,8 +1,5 @@
 //! Small sets as folders for the program `cases`: the rows of the paper's table
 //! that check a set, a set for each refusal number, and sets with two faults.
-//!
-//! Refusal 2 takes 10,000 lines, which is above the program's buffer, so no
-//! folder has it.
 
 mod one_fault;
 mod two_faults;

@@ -1,4 +1,4 @@
-//! A set for each refusal number of the set check but 2.
+//! A set for each refusal number of the set check.
 
 use crate::line::{header, receiver, relation, shot, Line};
 use crate::File::{R, S, X};
@@ -28,9 +28,16 @@ fn fault(number: u8, change: fn(Set) -> Set) -> OneFault {
     OneFault { number, change }
 }
 
+/// R goes on, in order, to one line too many.
+pub fn ten_thousand_lines(set: Set) -> Set {
+    let missing = 10_000 - set.lines(R);
+    set.add_all(R, (104..).map(receiver).take(missing))
+}
+
 fn form() -> Vec<OneFault> {
     vec![
         fault(1, |set| set.over(S, 81)),
+        fault(2, ten_thousand_lines),
         fault(3, |set| set.byte(X, 22, 82, b' ')),
         fault(4, |set| set.add(S, header(20))),
         fault(5, |set| set.put(R, 23, 66, "  0.00")),

@@ -1,6 +1,7 @@
 //! Sets with two faults, of numbers that are neighbours in the order of checks:
 //! the one that is looked for first is given.
 
+use super::one_fault::ten_thousand_lines;
 use crate::line::{receiver, relation, shot};
 use crate::File::{R, S, X};
 use crate::{set_a, Set};
@@ -36,7 +37,8 @@ fn both(
 /// 1 to 6 of one file, from 3 on in one line.
 fn form() -> Vec<TwoFaults> {
     vec![
-        both("faults_01_03", [1, 3], set_a, [|a| a.over(R, 1), |a| a.byte(R, 1, 1, 0)]),
+        both("faults_01_02", [1, 2], set_a, [|a| a.over(R, 1), ten_thousand_lines]),
+        both("faults_02_03", [2, 3], set_a, [ten_thousand_lines, |a| a.byte(R, 1, 1, 0)]),
         both(
             "faults_03_04",
             [3, 4],

@@ -38,12 +38,15 @@ fn set_a_is_accepted() {
     assert_eq!(Folder::of("set_a", &set_a()).says(), "ACCEPTED 3 1 1 3\n");
 }
 
-/// The folders of `cases`: the paper's rows, each refusal number but 2, two faults.
+/// The folders of `cases`: the paper's rows, each refusal number, two faults. 10,000
+/// lines are too long for the program.
 #[test]
 fn small_sets_have_the_readers_line() {
     for small in folders() {
         let name = format!("small_{}", small.name);
-        assert_eq!(Folder::of(&name, &small.set).says(), spschk::line(&small.set), "{name}");
+        let long = File::ALL.into_iter().find(|&file| small.set.file(file).len() > BUFFER);
+        let line = long.map_or_else(|| spschk::line(&small.set), too_long);
+        assert_eq!(Folder::of(&name, &small.set).says(), line, "{name}");
     }
 }
 
