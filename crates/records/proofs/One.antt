@@ -1,4 +1,5 @@
--- The contracts of this crate leave one outcome: for every public function, any two results that meet its contract are the same.
+-- The contracts of this crate leave one outcome: any two results that meet one of them are the same. That of `row_at` fixes the
+-- paper's row, and not how a kind of field is kept.
 use mathlib.Core.Path.{refl, sym, _∙_}
 use Rattle.outcome.specs.One.{One}
 use Rattle.records.proofs.fits.is_header as is-header
@@ -19,6 +20,8 @@ use Rattle.records.proofs.relation.reach_of as reach-of
 use Rattle.records.proofs.relation.reach_of.Reads as reach-of-reads
 use Rattle.records.proofs.relation.relation_of as relation-of
 use Rattle.records.proofs.relation.relation_of.Reads as relation-of-reads
+use Rattle.records.proofs.table.row_count as row-count
+use Rattle.records.proofs.table.row_count.Reads as row-count-reads
 use Rattle.lines.proofs.One.{verdict-one}
 
 pub is-header-one : One is-header.ended is-header-reads.Post
@@ -47,3 +50,6 @@ reach-of-one κs a v v′ w w′ p p′ = (p ∙ sym p′, refl)
 
 pub relation-of-one : One relation-of.ended relation-of-reads.Post
 relation-of-one κs a v v′ w w′ p p′ = (p ∙ sym p′, refl)
+
+pub row-count-one : One row-count.ended row-count-reads.Post
+row-count-one κs a v v′ w w′ p p′ = (p ∙ sym p′, refl)
