@@ -1,6 +1,8 @@
 -- The contracts of this crate leave one outcome: for every public function, any two results that meet its contract are the same.
 use mathlib.Core.Path.{_≡_, refl, sym, _∙_}
 use Rattle.outcome.specs.One.{One}
+use Rattle.lines.proofs.at_line as at-line
+use Rattle.lines.proofs.at_line.Reads as at-line-reads
 use Rattle.lines.proofs.line_count as line-count
 use Rattle.lines.proofs.line_count.Reads as line-count-reads
 use Rattle.lines.proofs.length_fits as length-fits
@@ -41,3 +43,6 @@ stray-one κs a v v′ w w′ p p′ = (p ∙ sym p′, refl)
 pub show-one : (κs : Lfts 1) (a : ArgsD show.signature κs) (v v′ : ResD show.signature κs) (s s′ : AtExit show.ended κs)
     → show-reads.Post κs a v s → show-reads.Post κs a v′ s′ → (ptr v ≡ ptr v′) × (now v ≡ now v′)
 show-one κs a v v′ s s′ p p′ = (p .1 ∙ sym (p′ .1), p .0 ∙ sym (p′ .0))
+
+pub at-line-one : One at-line.ended at-line-reads.Post
+at-line-one κs a v v′ w w′ p p′ = (verdict-one v v′ (p ∙ sym p′), refl)

@@ -4,7 +4,7 @@ ghost use mathlib.Core.Path.{_≡_};
 ghost use Prim.Native.Nat.{ℕ, _+_, _<_};
 ghost use denote.Ref.{ptr};
 ghost use Rattle.rules.specs.Places.{pick};
-ghost use Rattle.rules.specs.Plan.{run, _before_};
+ghost use Rattle.rules.specs.Plan.{refused, №, run, _before_};
 ghost use Rattle.rules.specs.Disc.{byteFits, file};
 ghost use Rattle.rules.specs.Form.{rule1, rule2};
 ghost use Rattle.rules.specs.Show.{shown as columnsOf, start, ofS, show as showOf, startIn};
@@ -14,6 +14,14 @@ ghost use Rattle.lines.specs.Paper.{paper, into};
 pub enum Verdict {
     Fine,
     Refused(u8, u8, u32, u8),
+}
+
+// Refusal n of file i, at column c of line k, from 0.
+pub fn at_line(n: u8, i: u8, k: usize, c: u8) -> Verdict
+    requires { ⌜ k < 4294967295 ⌝ }
+    ensures verdict { λ v. ⌜ paper v ≡ refused (№ n i (k + 1) c) ⌝ }
+{
+    Verdict::Refused(n, i, k as u32 + 1, c)
 }
 
 // How many whole lines a file has.
