@@ -4,4 +4,5 @@ pub mod Signs
 pub mod Codes
 pub mod Widths
 pub mod Packed
+pub mod LowHalves
 pub mod One

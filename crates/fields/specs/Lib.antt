@@ -1,3 +1,4 @@
 pub mod Paper
 pub mod Ink
 pub mod Packed
+pub mod Figures

@@ -6,6 +6,7 @@ ghost use Rattle.rules.specs.Kinds.{fits as fitsKind};
 ghost use Rattle.fields.specs.Paper.{kind, Sized};
 
 pub mod bytes;
+pub mod figures;
 pub mod names;
 pub mod numbers;
 pub mod ranges;
