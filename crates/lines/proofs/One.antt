@@ -3,6 +3,8 @@ use mathlib.Core.Path.{_≡_, refl, sym, _∙_}
 use Rattle.outcome.specs.One.{One}
 use Rattle.lines.proofs.at_line as at-line
 use Rattle.lines.proofs.at_line.Reads as at-line-reads
+use Rattle.lines.proofs.disc as disc
+use Rattle.lines.proofs.disc.Reads as disc-reads
 use Rattle.lines.proofs.line_count as line-count
 use Rattle.lines.proofs.line_count.Reads as line-count-reads
 use Rattle.lines.proofs.length_fits as length-fits
@@ -26,6 +28,9 @@ verdict-one Fine Fine e = refl
 verdict-one Fine (Refused n f l c) e = cc
 verdict-one (Refused n f l c) Fine e = cc
 verdict-one (Refused n f l c) (Refused n′ f′ l′ c′) e = cc
+
+pub disc-one : One disc.ended disc-reads.Post
+disc-one κs a v v′ w w′ p p′ = (p ∙ sym p′, refl)
 
 pub line-count-one : One line-count.ended line-count-reads.Post
 line-count-one κs a v v′ w w′ p p′ = (p ∙ sym p′, refl)

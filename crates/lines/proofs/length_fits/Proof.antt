@@ -1,47 +1,74 @@
--- `lines::length_fits` meets its contract: 1, then 2. Assumes nothing.
-use Prim.Native.Nat.{ℕ, _+_, _/_, min}
-use mathlib.Core.Path.{_≡_, ap, _∙_}
+use Prim.Native.Nat.{ℕ, _+_, _/_, _%_, min}
+use mathlib.Core.Path.{_≡_, sym, _∙_}
 use native.Mathlib.Omega.{arith}
 use lib.ListN.{length}
 use borrow.Author.Needs.{needs}
-use borrow.Author.Tests.{eq-eqb, ne-eqb, le-leb, lt-leb}
-use Rattle.rules.specs.Plan.{refused, №}
-use Rattle.rules.specs.Sheet.{mostLines}
-use Rattle.rules.specs.Disc.{disc}
-use Rattle.rules.specs.Form.{rule1, rule2}
-use Rattle.rules.proofs.Steps.{need-met, need-broken, before-met, before-broken}
+use Rattle.lines.specs.Reading.{sheetOf}
+use Rattle.lines.proofs.Laws.{one-broken, two-broken, both-met}
+use Rattle.lines.proofs.Sheets.{width, count-by, left-by}
 use Rattle.lines.proofs.length_fits.Statement.{statement}
 use Rattle.lines.proofs.length_fits.Tie as tie
 
-cast-t8 : tie.Need-cast-t8
-cast-t8 c = search needs
+stride-requires : tie.Need-stride-requires
+stride-requires c κs = search needs
 
-add-t9 : tie.Need-add-t9
-add-t9 c = search needs
+div-n : tie.Need-div-n
+div-n c = omega (arith, width (c .before .before .args .how) _ (c .stride .ensures))
+
+rem-if1 : tie.Need-rem-if1
+rem-if1 c = omega (arith, width (c .before .before .args .how) _ (c .stride .ensures))
+
+at-line-requires : tie.Need-at-line-requires
+at-line-requires c κs = search needs
 
 returns : tie.Need-returns
-unfolding disc rule1 rule2 mostLines
 returns c =
-    let n = length (c .before .before .args .f .now) / 82 in
-    let e : n + 1 ≡ min (n + 1) 10000 = omega arith in
-    ap (λ (l : ℕ). refused (№ 1 (c .before .before .args .i) l 0)) e ∙ before-broken _ _ _ (need-broken _ _ (ne-eqb _ _ (c .before .if1 .taken)))
+    let a = c .before .before .before .before .before .args in
+    let s = c .before .before .before .stride .ensures in
+    let l = left-by (a .how) _ s (a .f .now) in
+    c .at-line .ensures
+    ∙ one-broken (a .i) (sheetOf (a .how) (a .f .now)) _ (count-by (a .how) _ s (a .f .now)) _ (λ z. c .before .before .if1 .taken (l ∙ z)) (omega arith)
+
+at-line-requires-2 : tie.Need-at-line-requires-2
+at-line-requires-2 c κs = search needs
 
 returns-2 : tie.Need-returns-2
-unfolding disc rule1 rule2 mostLines
 returns-2 c =
-    let n = length (c .before .before .args .f .now) / 82 in
-    let e : 10000 ≡ min (n + 1) 10000 = omega arith in
-    ap (λ (l : ℕ). refused (№ 1 (c .before .before .args .i) l 0)) e ∙ before-broken _ _ _ (need-broken _ _ (ne-eqb _ _ (c .before .if1 .taken)))
+    let a = c .before .before .before .before .before .args in
+    let s = c .before .before .before .stride .ensures in
+    let l = left-by (a .how) _ s (a .f .now) in
+    c .at-line2 .ensures
+    ∙ one-broken (a .i) (sheetOf (a .how) (a .f .now)) _ (count-by (a .how) _ s (a .f .now)) _ (λ z. c .before .before .if1 .taken (l ∙ z)) (omega arith)
+
+at-line-requires-3 : tie.Need-at-line-requires-3
+at-line-requires-3 c κs = search needs
 
 returns-3 : tie.Need-returns-3
-unfolding disc rule1 rule2 mostLines
 returns-3 c =
-    need-broken _ _ (lt-leb _ _ (c .if3 .taken)) ∙ before-met _ _ (need-met _ _ (eq-eqb _ _ (c .before .if1 .left)))
+    let a = c .before .before .before .before .before .args in
+    let s = c .before .before .before .stride .ensures in
+    let l = left-by (a .how) _ s (a .f .now) in
+    c .at-line3 .ensures
+    ∙ two-broken (a .i) (sheetOf (a .how) (a .f .now)) _ (count-by (a .how) _ s (a .f .now)) (sym l ∙ c .before .before .if1 .left) (omega arith)
 
 returns-4 : tie.Need-returns-4
-unfolding disc rule1 rule2 mostLines
 returns-4 c =
-    need-met _ _ (le-leb _ _ (c .if3 .left)) ∙ before-met _ _ (need-met _ _ (eq-eqb _ _ (c .before .if1 .left)))
+    let a = c .before .before .before .before .args in
+    let s = c .before .before .stride .ensures in
+    let l = left-by (a .how) _ s (a .f .now) in
+    both-met (a .i) (sheetOf (a .how) (a .f .now)) _ (count-by (a .how) _ s (a .f .now)) (sym l ∙ c .before .if1 .left) (omega arith)
 
 pub length-fits-spec : {M : Type 1} → statement M
-length-fits-spec = tie.close (tie.spec cast-t8 add-t9 returns returns-2 returns-3 returns-4)
+length-fits-spec =
+    tie.close
+    (tie.spec
+    stride-requires
+    div-n
+    rem-if1
+    at-line-requires
+    returns
+    at-line-requires-2
+    returns-2
+    at-line-requires-3
+    returns-3
+    returns-4)
