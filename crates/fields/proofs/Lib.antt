@@ -4,5 +4,6 @@ pub mod Signs
 pub mod Codes
 pub mod Widths
 pub mod Packed
+pub mod Texts
 pub mod LowHalves
 pub mod One

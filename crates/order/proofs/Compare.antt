@@ -22,7 +22,7 @@ use Rattle.rules.proofs.Tests.{and-is, or-is, yes-no}
 use Rattle.fields.specs.Packed.{nameOf}
 use Rattle.tables.specs.Scan.{isKey, above as aboveBy}
 use Rattle.rows.specs.Numbers.{mark}
-use Rattle.rows.proofs.Bytes.{Wide, names-equal, names-below}
+use Rattle.fields.proofs.Texts.{Wide, names-equal, names-below}
 use Rattle.order.specs.Held.{Known, HoldsPoints}
 use Rattle.order.proofs.Known.{point-wide, point-index, key-hi, key-lo, key-mark}
 

@@ -24,10 +24,10 @@ use Rattle.rules.proofs.Sizes.{whole-small}
 use Rattle.rules.proofs.Breach.{run-met}
 use Rattle.rules.proofs.Form.{Formed, form-is}
 use Rattle.rules.proofs.Disc.{row-at, row-length, clean-is}
-use Rattle.fields.specs.Packed.{packed, nameOf as numbersOf}
+use Rattle.fields.specs.Packed.{Small, packed, nameOf as numbersOf}
 use Rattle.fields.proofs.Codes.{first-column}
-use Rattle.rows.specs.Numbers.{Small, Clean, mark, pointMark, pointRow, relationRow, recordOf, numberOf as rowNumber}
-use Rattle.rows.proofs.Bytes.{Long, Wide, cols-long}
+use Rattle.rows.specs.Numbers.{Clean, mark, pointMark, pointRow, relationRow, recordOf, numberOf as rowNumber}
+use Rattle.fields.proofs.Texts.{Long, Wide, cols-long}
 use Rattle.order.specs.Held.{Known, HoldsPoints, HoldsReaches, HoldsRecords}
 
 beyond : (l : List ℕ) (c : ℕ) → length l ≤ c → getD l c 0 ≡ 0

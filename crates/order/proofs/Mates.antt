@@ -24,7 +24,7 @@ use Rattle.rules.proofs.Cover.{covers-is, some-receiver}
 use Rattle.fields.specs.Packed.{packed, nameOf}
 use Rattle.tables.specs.Scan.{meets, taken}
 use Rattle.rows.specs.Numbers.{mark}
-use Rattle.rows.proofs.Bytes.{names-equal, texts-equal}
+use Rattle.fields.proofs.Texts.{names-equal, texts-equal}
 use Rattle.order.specs.Held.{Known, HoldsReaches, HoldsRecords}
 use Rattle.order.proofs.Known.{number, formed, source-wide, shot-index, instrument-small, receiver-wide, tape-long, record-small, upto-small, source-hi, source-lo, shot-mark, set-mark, receiver-index, receiver-hi, receiver-lo, first-at, last-at, channels-at, record-at}
 use Rattle.order.proofs.Compare.{agree, and-and, found, not-found, base-same, mark-same}

@@ -9,16 +9,16 @@ use Rattle.rules.specs.Text.{cols}
 use Rattle.rules.specs.Layout.{sps93, at}
 use Rattle.rules.specs.Points.{point, nameOf}
 use Rattle.rules.specs.Relations.{reach, relation}
-use Rattle.fields.specs.Packed.{packed}
+use Rattle.fields.specs.Packed.{Small, packed}
 use Rattle.fields.proofs.Packed.{name-hi, name-lo}
 use Rattle.rules.specs.Numbers.{size, whole}
 use Rattle.rules.specs.Sheet.{Sheet}
 use Rattle.rules.proofs.Columns.{cols-length}
 use Rattle.rules.proofs.Sizes.{whole-small}
-use Rattle.rows.specs.Numbers.{Small, pointRow, relationRow, sizeOf}
+use Rattle.rows.specs.Numbers.{pointRow, relationRow, sizeOf}
 use Rattle.rows.specs.declared.Rows.{Rows}
 use Rattle.rows.specs.declared.Rows.the-variants.{Points, Reaches, Records}
-use Rattle.rows.proofs.Bytes.{cols-long, packed-below}
+use Rattle.fields.proofs.Texts.{cols-long, packed-below}
 
 module _ (l : List ℕ) where
   pub name-first : packed (cols l 2 9) ≡ getD (pointRow l) 0 0

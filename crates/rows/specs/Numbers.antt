@@ -1,6 +1,5 @@
 -- The numbers of a line.
---   Small l         = its columns hold bytes
---   Clean f         = so do the lines of a file
+--   Clean f         = the columns of a file's lines hold bytes
 --   mark p i        = a point number and an index as one number, never 0
 --   pointMark l     = that of a receiver or a shot; 0 for any other line
 --   pointRow l      = the numbers of a point line: its name's two, and its mark
@@ -19,12 +18,9 @@ use Rattle.rules.specs.Sheet.{Sheet}
 use Rattle.rules.specs.Lines.{isHeader, isMarker}
 use Rattle.rules.specs.Points.{point}
 use Rattle.rules.specs.Relations.{reach, relation}
-use Rattle.fields.specs.Packed.{packed, nameOf}
+use Rattle.fields.specs.Packed.{Small, packed, nameOf}
 use Rattle.rows.specs.declared.Rows.{Rows}
 use Rattle.rows.specs.declared.Rows.the-variants.{Points, Reaches, Records}
-
-abbrev pub Small : List ℕ → Type 0
-Small l = (i : ℕ) → getD l i 0 < 256
 
 abbrev pub Clean : Sheet → Type 0
 Clean f = (k : ℕ) → k < f .count → Small (f .row k)

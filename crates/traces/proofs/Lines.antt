@@ -22,7 +22,7 @@ use Rattle.fields.specs.Packed.{packed, nameOf as numbersOf}
 use Rattle.fields.specs.declared.Name.{Name}
 use Rattle.records.specs.Coded.{codedReach}
 use Rattle.records.specs.declared.relation.Reach.{Reach as Numbers}
-use Rattle.rows.proofs.Bytes.{texts-equal, names-equal}
+use Rattle.fields.proofs.Texts.{texts-equal, names-equal}
 use Rattle.order.specs.Held.{Known}
 use Rattle.order.proofs.Known.{point-wide, receiver-wide, tape-long}
 use Rattle.traces.specs.Steps.{Asked, here}

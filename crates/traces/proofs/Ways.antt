@@ -25,12 +25,11 @@ use Rattle.rules.proofs.Form.{data-is}
 use Rattle.rules.proofs.Cover.{carried}
 use Rattle.rules.proofs.Search.{search-is}
 use Rattle.rules.proofs.Traces.{leads-is}
-use Rattle.fields.specs.Packed.{nameOf as numbersOf}
+use Rattle.fields.specs.Packed.{Small, nameOf as numbersOf}
 use Rattle.fields.specs.declared.Name.{Name}
 use Rattle.records.specs.Coded.{codedReach}
 use Rattle.records.specs.declared.relation.Reach.{Reach as Numbers}
-use Rattle.rows.specs.Numbers.{Small}
-use Rattle.rows.proofs.Bytes.{cols-long, names-equal}
+use Rattle.fields.proofs.Texts.{cols-long, names-equal}
 use Rattle.traces.specs.Steps.{Accepted}
 use Rattle.traces.proofs.Sets.{sound-line}
 

@@ -14,9 +14,8 @@ use lib.Dec.{eqb, ltb}
 use Rattle.rules.specs.Text.{cols, same}
 use Rattle.rules.specs.Names.{Name, text, sameName, lessName}
 use Rattle.rules.proofs.Columns.{cols-end, cols-step}
-use Rattle.fields.specs.Packed.{packedAfter, packed, nameOf}
+use Rattle.fields.specs.Packed.{Small, packedAfter, packed, nameOf}
 use Rattle.fields.proofs.Packed.{Alike, packed-same, names-same, names-less}
-use Rattle.rows.specs.Numbers.{Small}
 
 abbrev pub Long : ℕ → List ℕ → Type 0
 Long zero [] = Unit {0}
