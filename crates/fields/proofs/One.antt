@@ -1,20 +1,35 @@
 -- The contracts of this crate leave one outcome: for every public function, any two results that meet its contract are the same.
+use native.Mathlib.Nat.{le-refl}
 use mathlib.Core.Path.{_≡_, refl, sym, _∙_}
 use Rattle.outcome.specs.One.{One}
 use Rattle.fields.proofs.bytes.blank as blank
 use Rattle.fields.proofs.bytes.blank.Reads as blank-reads
-use Rattle.fields.proofs.bytes.all_digits as all-digits
-use Rattle.fields.proofs.bytes.all_digits.Reads as all-digits-reads
-use Rattle.fields.proofs.bytes.index_fits as index-fits
-use Rattle.fields.proofs.bytes.index_fits.Reads as index-fits-reads
+use Rattle.fields.proofs.kinds.digits_only as digits-only
+use Rattle.fields.proofs.kinds.digits_only.Reads as digits-only-reads
 use Rattle.fields.proofs.bytes.index_of as index-of
 use Rattle.fields.proofs.bytes.index_of.Reads as index-of-reads
-use Rattle.fields.proofs.bytes.time as time
-use Rattle.fields.proofs.bytes.time.Reads as time-reads
+use Rattle.fields.proofs.kinds.starts_non_blank as starts-non-blank
+use Rattle.fields.proofs.kinds.starts_non_blank.Reads as starts-non-blank-reads
+use Rattle.fields.proofs.kinds.coordinate as coordinate
+use Rattle.fields.proofs.kinds.coordinate.Reads as coordinate-reads
+use Rattle.fields.proofs.kinds.index as index
+use Rattle.fields.proofs.kinds.index.Reads as index-reads
+use Rattle.fields.proofs.kinds.water_depth as water-depth
+use Rattle.fields.proofs.kinds.water_depth.Reads as water-depth-reads
+use Rattle.fields.proofs.kinds.whole_number as whole-number
+use Rattle.fields.proofs.kinds.whole_number.Reads as whole-number-reads
+use Rattle.fields.proofs.kinds.signed_number as signed-number
+use Rattle.fields.proofs.kinds.signed_number.Reads as signed-number-reads
+use Rattle.fields.proofs.kinds.signed_decimal as kind-signed-decimal
+use Rattle.fields.proofs.kinds.signed_decimal.Reads as kind-signed-decimal-reads
+use Rattle.fields.proofs.kinds.decimal_number as decimal-number
+use Rattle.fields.proofs.kinds.decimal_number.Reads as decimal-number-reads
+use Rattle.fields.proofs.kinds.time as time
+use Rattle.fields.proofs.kinds.time.Reads as time-reads
 use Rattle.fields.proofs.bytes.two as two
 use Rattle.fields.proofs.bytes.two.Reads as two-reads
-use Rattle.fields.proofs.bytes.code as code
-use Rattle.fields.proofs.bytes.code.Reads as code-reads
+use Rattle.fields.proofs.kinds.code as code
+use Rattle.fields.proofs.kinds.code.Reads as code-reads
 use Rattle.fields.proofs.numbers.digits as digits
 use Rattle.fields.proofs.numbers.digits.Reads as digits-reads
 use Rattle.fields.proofs.numbers.whole as whole
@@ -65,14 +80,35 @@ number-one (Minus m) (Minus n) e = cc
 pub blank-one : One blank.ended blank-reads.Post
 blank-one κs a v v′ w w′ p p′ = (p ∙ sym p′, refl)
 
-pub all-digits-one : One all-digits.ended all-digits-reads.Post
-all-digits-one κs a v v′ w w′ p p′ = (p ∙ sym p′, refl)
-
-pub index-fits-one : One index-fits.ended index-fits-reads.Post
-index-fits-one κs a v v′ w w′ p p′ = (p ∙ sym p′, refl)
+pub digits-only-one : One digits-only.ended digits-only-reads.Post
+digits-only-one κs a v v′ w w′ p p′ = (p ∙ sym p′, refl)
 
 pub index-of-one : One index-of.ended index-of-reads.Post
 index-of-one κs a v v′ w w′ p p′ = (p ∙ sym p′, refl)
+
+pub starts-non-blank-one : One starts-non-blank.ended starts-non-blank-reads.Post
+starts-non-blank-one κs a v v′ w w′ p p′ = (p _ (le-refl _) ∙ sym (p′ _ (le-refl _)), refl)
+
+pub coordinate-one : One coordinate.ended coordinate-reads.Post
+coordinate-one κs a v v′ w w′ p p′ = (p ∙ sym p′, refl)
+
+pub index-one : One index.ended index-reads.Post
+index-one κs a v v′ w w′ p p′ = (p _ (le-refl _) ∙ sym (p′ _ (le-refl _)), refl)
+
+pub water-depth-one : One water-depth.ended water-depth-reads.Post
+water-depth-one κs a v v′ w w′ p p′ = (p ∙ sym p′, refl)
+
+pub whole-number-one : One whole-number.ended whole-number-reads.Post
+whole-number-one κs a v v′ w w′ p p′ = (p ∙ sym p′, refl)
+
+pub signed-number-one : One signed-number.ended signed-number-reads.Post
+signed-number-one κs a v v′ w w′ p p′ = (p ∙ sym p′, refl)
+
+pub kind-signed-decimal-one : One kind-signed-decimal.ended kind-signed-decimal-reads.Post
+kind-signed-decimal-one κs a v v′ w w′ p p′ = (p ∙ sym p′, refl)
+
+pub decimal-number-one : One decimal-number.ended decimal-number-reads.Post
+decimal-number-one κs a v v′ w w′ p p′ = (p ∙ sym p′, refl)
 
 pub time-one : One time.ended time-reads.Post
 time-one κs a v v′ w w′ p p′ = (p ∙ sym p′, refl)

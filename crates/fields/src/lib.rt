@@ -7,6 +7,7 @@ ghost use Rattle.fields.specs.Paper.{kind, Sized};
 
 pub mod bytes;
 pub mod figures;
+pub mod kinds;
 pub mod names;
 pub mod numbers;
 pub mod ranges;
@@ -45,16 +46,16 @@ pub fn fits(k: Kind, l: &[u8; 80], a: usize, b: usize) -> bool
     ensures value { λ t. ⌜ t ≡ fitsKind (kind k) (cols (now (l .entry)) a b) ⌝ }
 {
     match k {
-        Kind::StartsNonBlank => l[a - 1] != 32,
-        Kind::DigitsOnly => bytes::all_digits(l, a, b),
-        Kind::Coordinate => ranges::formed(numbers::signed_decimal(l, a, b)),
-        Kind::Index => bytes::index_fits(l[a - 1]),
-        Kind::WaterDepth => ranges::formed(numbers::water(l, a, b)),
-        Kind::Time => bytes::time(l, a),
-        Kind::WholeNumber(m, n) => ranges::between(m, n, numbers::whole(l, a, b)),
-        Kind::SignedNumber(m, n) => ranges::within(m, n, numbers::signed(l, a, b)),
-        Kind::SignedDecimal(m, n) => ranges::within(m, n, numbers::signed_decimal(l, a, b)),
-        Kind::DecimalNumber(n) => ranges::between(0, n, numbers::decimal(l, a, b)),
-        Kind::Code(i) => bytes::code(l, a, i),
+        Kind::StartsNonBlank => kinds::starts_non_blank(l, a),
+        Kind::DigitsOnly => kinds::digits_only(l, a, b),
+        Kind::Coordinate => kinds::coordinate(l, a, b),
+        Kind::Index => kinds::index(l, a),
+        Kind::WaterDepth => kinds::water_depth(l, a, b),
+        Kind::Time => kinds::time(l, a),
+        Kind::WholeNumber(m, n) => kinds::whole_number(m, n, l, a, b),
+        Kind::SignedNumber(m, n) => kinds::signed_number(m, n, l, a, b),
+        Kind::SignedDecimal(m, n) => kinds::signed_decimal(m, n, l, a, b),
+        Kind::DecimalNumber(n) => kinds::decimal_number(n, l, a, b),
+        Kind::Code(i) => kinds::code(i, l, a),
     }
 }

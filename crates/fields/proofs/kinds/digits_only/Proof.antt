@@ -1,13 +1,13 @@
--- `fields::bytes::all_digits` meets its contract. Assumes nothing.
+-- `fields::kinds::digits_only` meets its contract. Assumes nothing.
 use Prim.Native.Nat.{_+_, _-_, _≤_}
 use Rattle.fields.proofs.Walks.{all-end, all-high, all-low, all-step}
-use Rattle.rules.specs.Kinds.{allDigits}
+use Rattle.rules.specs.Kinds.{allDigits, fits}
 use Rattle.rules.specs.Text.{cols}
 use mathlib.Core.Path.{_≡_}
 use borrow.Author.Needs.{needs}
 use native.Mathlib.Omega.{arith}
-use Rattle.fields.proofs.bytes.all_digits.Statement.{statement}
-use Rattle.fields.proofs.bytes.all_digits.Tie as tie
+use Rattle.fields.proofs.kinds.digits_only.Statement.{statement}
+use Rattle.fields.proofs.kinds.digits_only.Tie as tie
 
 abbrev Inv-loop : tie.InvT-loop
 Inv-loop l a b c₀ c = (1 ≤ c) × (allDigits (cols l c b) ≡ allDigits (cols l a b))
@@ -25,9 +25,11 @@ element-copy-out-d : tie.Need-element-copy-out-d Inv-loop μ-loop
 element-copy-out-d c = search needs
 
 returns : tie.Need-returns Inv-loop μ-loop
+unfolding fits
 returns c = search (needs, all-low)
 
 returns-2 : tie.Need-returns-2 Inv-loop μ-loop
+unfolding fits
 returns-2 c = search (needs, all-high)
 
 add-c : tie.Need-add-c Inv-loop μ-loop
@@ -40,10 +42,11 @@ loop-again : tie.Need-loop-again Inv-loop μ-loop
 loop-again c = (omega arith, search (needs, all-step))
 
 returns-3 : tie.Need-returns-3 Inv-loop μ-loop
+unfolding fits
 returns-3 c = search (needs, all-end)
 
-pub all-digits-spec : {M : Type 1} → statement M
-all-digits-spec =
+pub digits-only-spec : {M : Type 1} → statement M
+digits-only-spec =
     tie.close
     (tie.spec
     Inv-loop

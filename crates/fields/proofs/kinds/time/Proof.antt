@@ -1,11 +1,11 @@
--- `fields::bytes::time` meets its contract. Assumes nothing.
+-- `fields::kinds::time` meets its contract. Assumes nothing.
 use Rattle.fields.proofs.Codes.{time-hours, time-minutes, time-seconds}
-use Rattle.rules.specs.Kinds.{between}
+use Rattle.rules.specs.Kinds.{between, fits}
 use borrow.Author.Tests.{not-false, not-true}
 use mathlib.Core.Path.{_∙_, ap, sym}
 use borrow.Author.Needs.{needs}
-use Rattle.fields.proofs.bytes.time.Statement.{statement}
-use Rattle.fields.proofs.bytes.time.Tie as tie
+use Rattle.fields.proofs.kinds.time.Statement.{statement}
+use Rattle.fields.proofs.kinds.time.Tie as tie
 
 add-digits : tie.Need-add-digits
 add-digits c = search needs
@@ -17,6 +17,7 @@ between-requires : tie.Need-between-requires
 between-requires c κs = search needs
 
 returns : tie.Need-returns
+unfolding fits
 returns c = time-hours _ _ (c .before .before .before .pre .0) (sym (c .before .between .ensures ∙ ap (between 0 23) (c .before .before .digits .ensures)) ∙ not-true _ (c .if1 .taken))
 
 add-digits-2 : tie.Need-add-digits-2
@@ -32,6 +33,7 @@ between-requires-2 : tie.Need-between-requires-2
 between-requires-2 c κs = search needs
 
 returns-2 : tie.Need-returns-2
+unfolding fits
 returns-2 c =
     let b = c .before .before .before in
     time-minutes _ _ (b .before .before .before .pre .0) (sym (b .before .between .ensures ∙ ap (between 0 23) (b .before .before .digits .ensures)) ∙ not-false _ (b .if1 .left))
@@ -50,6 +52,7 @@ between-requires-3 : tie.Need-between-requires-3
 between-requires-3 c κs = search needs
 
 returns-3 : tie.Need-returns-3
+unfolding fits
 returns-3 c =
     let d = c .before .before in
     let b = d .before .before .before in

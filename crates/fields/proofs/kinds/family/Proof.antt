@@ -1,10 +1,10 @@
--- `fields::bytes::family` meets its contract. Assumes nothing.
+-- `fields::kinds::family` meets its contract. Assumes nothing.
 use Rattle.rules.specs.Kinds.{family}
 use Rattle.rules.specs.Places.{pick}
 use borrow.Author.Tests.{eq-eqb, ne-eqb}
 use borrow.Author.Needs.{needs}
-use Rattle.fields.proofs.bytes.family.Statement.{statement}
-use Rattle.fields.proofs.bytes.family.Tie as tie
+use Rattle.fields.proofs.kinds.family.Statement.{statement}
+use Rattle.fields.proofs.kinds.family.Tie as tie
 
 receiver-family-requires : tie.Need-receiver-family-requires
 receiver-family-requires c κs = search needs

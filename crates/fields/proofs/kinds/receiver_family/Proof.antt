@@ -1,8 +1,8 @@
--- `fields::bytes::receiver_family` meets its contract. Assumes nothing.
+-- `fields::kinds::receiver_family` meets its contract. Assumes nothing.
 use Rattle.rules.specs.Text.{oneOf}
 use borrow.Author.Tests.{eq-eqb, ne-eqb}
-use Rattle.fields.proofs.bytes.receiver_family.Statement.{statement}
-use Rattle.fields.proofs.bytes.receiver_family.Tie as tie
+use Rattle.fields.proofs.kinds.receiver_family.Statement.{statement}
+use Rattle.fields.proofs.kinds.receiver_family.Tie as tie
 
 returns : tie.Need-returns
 unfolding oneOf

@@ -1,10 +1,11 @@
--- `fields::bytes::code` meets its contract. Assumes nothing.
+-- `fields::kinds::code` meets its contract. Assumes nothing.
+use Rattle.rules.specs.Kinds.{fits}
 use Rattle.fields.proofs.Codes.{code-digit, code-killed, code-marker, code-other}
 use borrow.Author.Tests.{not-false, not-true}
 use mathlib.Core.Path.{_∙_, sym}
 use borrow.Author.Needs.{needs}
-use Rattle.fields.proofs.bytes.code.Statement.{statement}
-use Rattle.fields.proofs.bytes.code.Tie as tie
+use Rattle.fields.proofs.kinds.code.Statement.{statement}
+use Rattle.fields.proofs.kinds.code.Tie as tie
 
 sub-b : tie.Need-sub-b
 sub-b c = search needs
@@ -19,12 +20,14 @@ two-requires : tie.Need-two-requires
 two-requires c κs = search needs
 
 returns : tie.Need-returns
+unfolding fits
 returns c = code-marker _ _ (c .before .before .before .before .pre .0) _ (sym (c .before .two .ensures) ∙ c .if1 .taken)
 
 two-requires-2 : tie.Need-two-requires-2
 two-requires-2 c κs = search needs
 
 returns-2 : tie.Need-returns-2
+unfolding fits
 returns-2 c =
     let b = c .before .before in
     code-killed _ _ (b .before .before .before .before .pre .0) _ (sym (b .before .two .ensures) ∙ b .if1 .left) (sym (c .before .two2 .ensures) ∙ c .if2 .taken)
@@ -33,6 +36,7 @@ family-requires : tie.Need-family-requires
 family-requires c κs = search needs
 
 returns-3 : tie.Need-returns-3
+unfolding fits
 returns-3 c =
     let d = c .before .before in
     let b = d .before .before in
@@ -43,6 +47,7 @@ digit1-requires : tie.Need-digit1-requires
 digit1-requires c κs = search needs
 
 returns-4 : tie.Need-returns-4
+unfolding fits
 returns-4 c =
     let e = c .before in
     let d = e .before .before in
