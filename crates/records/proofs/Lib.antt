@@ -1,4 +1,5 @@
 pub mod Rows
+pub mod Fitting
 pub mod Sizes
 pub mod Six
 pub mod Values

@@ -1,5 +1,5 @@
 -- The contracts of this crate leave one outcome: any two results that meet one of them are the same. That of `row_at` fixes the
--- paper's row, and not how a kind of field is kept.
+-- paper's row, and not how a kind of field is kept; those of `straight` say only what follows where they are true.
 use mathlib.Core.Path.{refl, sym, _∙_}
 use Rattle.outcome.specs.One.{One}
 use Rattle.records.proofs.fits.is_header as is-header

@@ -12,6 +12,7 @@ ghost use Rattle.lines.specs.Paper.{paper};
 ghost use Rattle.fields.specs.Paper.{sized};
 ghost use Rattle.records.specs.Coded.{rowOf, rowsOf, rowFits};
 use crate::relation;
+use crate::straight;
 use crate::table;
 use crate::table::Row;
 use crate::table::Table;
@@ -85,18 +86,28 @@ fn fields_fit(l: &[u8; 80], t: Table, marker: bool, i: u8, k: u32) -> Verdict
     Verdict::Fine
 }
 
-// 5 of line k, from 0, of file i.
+// 5 of line k, from 0, of file i: all rows at once, and one by one only where a field is bad.
 pub fn rule5(l: &[u8; 80], i: u8, k: u32) -> Verdict
     requires { ⌜ k < 10000 ⌝ }
     ensures verdict { λ v. ⌜ paper v ≡ run (rule5Of i sps93 k (now (l .entry))) ⌝ }
 {
     if is_header(l) {
+        if straight::header_fits(l) {
+            return Verdict::Fine;
+        }
         return fields_fit(l, Table::Header, false, i, k);
     }
     if i == 3 {
+        if straight::relation_fits(l) {
+            return Verdict::Fine;
+        }
         return fields_fit(l, Table::Relation, false, i, k);
     }
-    fields_fit(l, Table::Point(i), is_marker(l), i, k)
+    let marker = is_marker(l);
+    if straight::point_fits(l, i, marker) {
+        return Verdict::Fine;
+    }
+    fields_fit(l, Table::Point(i), marker, i, k)
 }
 
 // 6 of line k of X, from 0.

@@ -3,4 +3,5 @@
 pub mod fits;
 pub mod point;
 pub mod relation;
+mod straight;
 mod table;
