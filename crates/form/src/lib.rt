@@ -44,7 +44,7 @@ fn rule4(l: &[u8; 80], f: &[u8], i: u8, k: usize, headers: bool) -> Verdict
 }
 
 // 6 of line k, where it is a relation line.
-fn numbers_fit(l: &[u8; 80], i: u8, k: u32) -> Verdict
+fn numbers_fit(l: &[u8; 80], i: u8, k: usize) -> Verdict
     requires { ⌜ k < 10000 ⌝ }
     ensures verdict { λ v. ⌜ paper v ≡ run (numbersOf i k (now (l .entry))) ⌝ }
 {
@@ -58,7 +58,7 @@ fn numbers_fit(l: &[u8; 80], i: u8, k: u32) -> Verdict
 }
 
 // 5 of line k, then 6.
-pub fn fields_fit(l: &[u8; 80], i: u8, k: u32) -> Verdict
+pub fn fields_fit(l: &[u8; 80], i: u8, k: usize) -> Verdict
     requires { ⌜ k < 10000 ⌝ }
     ensures verdict { λ v. ⌜ paper v ≡ run (fieldsOf i k (now (l .entry))) ⌝ }
 {
@@ -83,7 +83,7 @@ fn line_fits(f: &[u8], i: u8, k: usize, headers: bool) -> Verdict
     if let Verdict::Refused(_, _, _, _) = v {
         return v;
     }
-    fields_fit(&l, i, k as u32)
+    fields_fit(&l, i, k)
 }
 
 // Whether the lines before line k + 1 are all header lines.

@@ -70,7 +70,7 @@ fn row_fits(l: &[u8; 80], w: Row, marker: bool) -> bool
 }
 
 // 5 over the rows of a table, from the left: line k, from 0, of file i.
-fn fields_fit(l: &[u8; 80], t: Table, marker: bool, i: u8, k: u32) -> Verdict
+fn fields_fit(l: &[u8; 80], t: Table, marker: bool, i: u8, k: usize) -> Verdict
     requires { ⌜ k < 10000 ⌝ }
     ensures verdict { λ v. ⌜ paper v ≡ run (fieldsFit i k marker (now (l .entry)) (rowsOf t)) ⌝ }
 {
@@ -79,7 +79,7 @@ fn fields_fit(l: &[u8; 80], t: Table, marker: bool, i: u8, k: u32) -> Verdict
     while j < n {
         let w = table::row_at(t, j);
         if !row_fits(l, w, marker) {
-            return Verdict::Refused(5, i, k + 1, w.first as u8);
+            return lines::at_line(5, i, k, w.first as u8);
         }
         j += 1;
     }
@@ -87,7 +87,7 @@ fn fields_fit(l: &[u8; 80], t: Table, marker: bool, i: u8, k: u32) -> Verdict
 }
 
 // 5 of line k, from 0, of file i: all rows at once, and one by one only where a field is bad.
-pub fn rule5(l: &[u8; 80], i: u8, k: u32) -> Verdict
+pub fn rule5(l: &[u8; 80], i: u8, k: usize) -> Verdict
     requires { ⌜ k < 10000 ⌝ }
     ensures verdict { λ v. ⌜ paper v ≡ run (rule5Of i sps93 k (now (l .entry))) ⌝ }
 {
@@ -111,27 +111,27 @@ pub fn rule5(l: &[u8; 80], i: u8, k: u32) -> Verdict
 }
 
 // 6 of line k of X, from 0.
-pub fn rule6(l: &[u8; 80], k: u32) -> Verdict
+pub fn rule6(l: &[u8; 80], k: usize) -> Verdict
     requires { ⌜ k < 10000 ⌝ }
     ensures verdict { λ v. ⌜ paper v ≡ run (rule6Of sps93 k (reachOf sps93 (now (l .entry)))) ⌝ }
 {
     let q = relation::reach_of(l);
     if q.upto < q.from {
-        return Verdict::Refused(6, 3, k + 1, 39);
+        return lines::at_line(6, 3, k, 39);
     }
     if q.to_receiver < q.from_receiver {
-        return Verdict::Refused(6, 3, k + 1, 64);
+        return lines::at_line(6, 3, k, 64);
     }
     let n = q.upto + 1 - q.from;
     let i = q.step;
     if i == 0 {
-        return Verdict::Refused(6, 3, k + 1, 47);
+        return lines::at_line(6, 3, k, 47);
     }
     if n % i != 0 {
-        return Verdict::Refused(6, 3, k + 1, 47);
+        return lines::at_line(6, 3, k, 47);
     }
     if n / i != q.to_receiver + 1 - q.from_receiver {
-        return Verdict::Refused(6, 3, k + 1, 72);
+        return lines::at_line(6, 3, k, 72);
     }
     Verdict::Fine
 }

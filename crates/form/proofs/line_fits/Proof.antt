@@ -36,9 +36,6 @@ returns-2 c = line-clean _ _ _ _ (c .before .before .before .before .before .bef
 enum-told-2 : tie.Need-enum-told-2
 enum-told-2 c = search needs
 
-cast-fields-fit : tie.Need-cast-fields-fit
-cast-fields-fit c = search needs
-
 fields-fit-requires : tie.Need-fields-fit-requires
 fields-fit-requires c κs = search needs
 
@@ -58,6 +55,5 @@ line-fits-spec =
     enum-told
     returns-2
     enum-told-2
-    cast-fields-fit
     fields-fit-requires
     returns-3)

@@ -7,7 +7,7 @@ use Rattle.rules.specs.Form.{fieldsFit}
 use Rattle.rules.specs.Plan.{run}
 use borrow.Author.Tests.{not-false, not-true}
 use lib.ListN.{drop, length}
-use mathlib.Core.Path.{_≡_, refl}
+use mathlib.Core.Path.{_∙_, _≡_, refl}
 use borrow.Author.Needs.{needs}
 use native.Mathlib.Omega.{arith}
 use Rattle.records.proofs.fits.fields_fit.Statement.{statement}
@@ -34,20 +34,22 @@ row-at-requires c κs =
 row-fits-requires : tie.Need-row-fits-requires Inv-loop μ-loop
 row-fits-requires c κs = c .row-at .ensures .1
 
-add-t11 : tie.Need-add-t11 Inv-loop μ-loop
-add-t11 c = search needs
+cast-at-line : tie.Need-cast-at-line Inv-loop μ-loop
+cast-at-line c = let h = sized-is _ _ _ (c .before .before .before .row-at .ensures .1) in omega arith
 
-cast-t12 : tie.Need-cast-t12 Inv-loop μ-loop
-cast-t12 c = let h = sized-is _ _ _ (c .before .before .before .row-at .ensures .1) in omega arith
+at-line-requires : tie.Need-at-line-requires Inv-loop μ-loop
+at-line-requires c κs = search needs
 
 returns : tie.Need-returns Inv-loop μ-loop
 returns c =
-    let at = c .before .before .before .before .before .loop in
-    let a = c .before .before .before .before .before .before .before .args in
-    let n = c .before .before .before .before .before .before .row-count .ensures in
-    let w = c .before .before .before .row-at in
-    rows-stop (a .i) (a .k) (a .marker) (a .l .now) (rowsOf (a .t)) (at .j) _ (at .inv .1) (omega arith) (rowOf (w .result)) (w .ensures .0) _
-    (c .before .before .row-fits .ensures) (not-true _ (c .before .if1 .taken))
+    let d = c .before in
+    let at = d .before .before .before .before .before .loop in
+    let a = d .before .before .before .before .before .before .before .args in
+    let n = d .before .before .before .before .before .before .row-count .ensures in
+    let w = d .before .before .before .row-at in
+    c .at-line .ensures
+    ∙ rows-stop (a .i) (a .k) (a .marker) (a .l .now) (rowsOf (a .t)) (at .j) _ (at .inv .1) (omega arith) (rowOf (w .result)) (w .ensures .0) _
+    (d .before .before .row-fits .ensures) (not-true _ (d .before .if1 .taken))
 
 add-j : tie.Need-add-j Inv-loop μ-loop
 add-j c = search needs
@@ -83,8 +85,8 @@ fields-fit-spec =
     loop-holds
     row-at-requires
     row-fits-requires
-    add-t11
-    cast-t12
+    cast-at-line
+    at-line-requires
     returns
     add-j
     loop-less
