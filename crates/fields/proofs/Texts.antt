@@ -1,6 +1,4 @@
 -- Texts of bytes, and what their numbers tell.
---   Long n xs     = n bytes
---   Wide m        = a name of 16 bytes
 --   cols-long     = columns of a line of bytes
 --   names-equal   = names of bytes are the same where their two numbers are; names-below = and in the order of their numbers
 --   texts-equal   = so are texts of n bytes by their one number
@@ -14,14 +12,9 @@ use lib.Dec.{eqb, ltb}
 use Rattle.rules.specs.Text.{cols, same}
 use Rattle.rules.specs.Names.{Name, text, sameName, lessName}
 use Rattle.rules.proofs.Columns.{cols-end, cols-step}
-use Rattle.fields.specs.Packed.{Small, packedAfter, packed, nameOf}
+use Rattle.fields.specs.Packed.{packedAfter, packed, nameOf}
+use Rattle.fields.specs.Texts.{Small, Long, Wide}
 use Rattle.fields.proofs.Packed.{Alike, packed-same, names-same, names-less}
-
-abbrev pub Long : ℕ → List ℕ → Type 0
-Long zero [] = Unit {0}
-Long zero (x ∷ xs) = ⊥
-Long (suc n) [] = ⊥
-Long (suc n) (x ∷ xs) = (x < 256) × Long n xs
 
 alike : (n : ℕ) (xs ys : List ℕ) → Long n xs → Long n ys → Alike xs ys
 alike zero [] [] a b = tt
@@ -30,9 +23,6 @@ alike zero (x ∷ xs) ys a b = absurd a
 alike (suc n) [] ys a b = absurd a
 alike (suc n) (x ∷ xs) [] a b = absurd b
 alike (suc n) (x ∷ xs) (y ∷ ys) a b = ((a .0, b .0), alike n xs ys (a .1) (b .1))
-
-abbrev pub Wide : Name → Type 0
-Wide (text xs) = Long 16 xs
 
 pub names-equal : (m n : Name) → Wide m → Wide n
     → (eqb (nameOf m .hi) (nameOf n .hi) && eqb (nameOf m .lo) (nameOf n .lo)) ≡ sameName m n

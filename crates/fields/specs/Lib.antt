@@ -2,3 +2,4 @@ pub mod Paper
 pub mod Ink
 pub mod Packed
 pub mod Figures
+pub mod Texts

@@ -1,16 +1,12 @@
 -- Bytes as one number to the base 256, so that names and tapes compare as numbers.
---   Small l          = a line's columns hold bytes
 --   packedAfter v bs = the number of bs after those that make v
 --   packed bs        = the number of bs
 --   nameOf n         = a name of 16 columns as two numbers of 8
-use Prim.Native.Nat.{ℕ, _+_, _*_, _<_}
+use Prim.Native.Nat.{ℕ, _+_, _*_}
 use mathlib.Core.List.{List, [], _∷_}
-use lib.ListN.{take, drop, getD}
+use lib.ListN.{take, drop}
 use Rattle.rules.specs.Names.{Name as PaperName, text}
 use Rattle.fields.specs.declared.Name.{Name}
-
-abbrev pub Small : List ℕ → Type 0
-Small l = (i : ℕ) → getD l i 0 < 256
 
 unfoldable pub packedAfter : ℕ → List ℕ → ℕ
 packedAfter v [] = v

@@ -16,7 +16,7 @@ use Rattle.rules.specs.Disc.{printable}
 use Rattle.rules.specs.Questions.{recordAsked, lineAsked, componentAsked}
 use Rattle.rules.proofs.Tests.{says}
 use Rattle.rules.proofs.Columns.{cols-length, cols-at}
-use Rattle.fields.proofs.Texts.{Long}
+use Rattle.fields.specs.Texts.{Long}
 use Rattle.traces.specs.Steps.{Asked}
 
 -- one byte

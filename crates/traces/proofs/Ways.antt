@@ -25,7 +25,8 @@ use Rattle.rules.proofs.Form.{data-is}
 use Rattle.rules.proofs.Cover.{carried}
 use Rattle.rules.proofs.Search.{search-is}
 use Rattle.rules.proofs.Traces.{leads-is}
-use Rattle.fields.specs.Packed.{Small, nameOf as numbersOf}
+use Rattle.fields.specs.Packed.{nameOf as numbersOf}
+use Rattle.fields.specs.Texts.{Small}
 use Rattle.fields.specs.declared.Name.{Name}
 use Rattle.records.specs.Coded.{codedReach}
 use Rattle.records.specs.declared.relation.Reach.{Reach as Numbers}
