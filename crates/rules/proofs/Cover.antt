@@ -1,17 +1,21 @@
 -- The arithmetic of one relation line: its channels against its receivers and components.
 --   Covers q n      = receiver number n is covered
 --   Carries q c     = channel c is
+--   meet-overlap    = two lines cover one receiver where each begins before the other ends
 --   Sound q         = what 5 and 6 leave of a relation line
 use Prim.Native.Nat.{ℕ, suc, _+_, _-_, _*_, _/_, _%_, _≤_, _<_}
 use native.Mathlib.Nat.{div-lt-iff-lt-mul, div-add-mod', mod-lt, mul-add-div-right, mul-add-mod-self-right, div-eq-of-lt, mod-eq-of-lt, mul-le-mul-right, suc-mul, add-sub-cancel-left, add-sub-cancel}
 use native.Mathlib.Omega.{arith}
 use mathlib.Core.Path.{_≡_, sym, ap, _∙_, subst}
 use mathlib.Core.Logic.{_↔_, Iff·rfl}
-use mathlib.Core.Bool.{Bool, true}
+use mathlib.Core.Bool.{Bool, true, _&&_}
+use lib.Dec.{eqb, leb}
+use borrow.Author.Tests.{leb-true, le-leb}
 use Rattle.rules.specs.Places.{every, some}
+use Rattle.rules.specs.Names.{sameName}
 use Rattle.rules.specs.Relations.{Reach}
 use Rattle.rules.specs.Cover.{traces, carries, receivers, receiverOn, covers, leads, component, channelOf, meet}
-use Rattle.rules.proofs.Tests.{says, every-is, some-is}
+use Rattle.rules.proofs.Tests.{says, agree, and-is, every-is, some-is, yes-no}
 
 abbrev pub Covers : Reach → ℕ → Type 0
 Covers q n = (q .fromReceiver ≤ n) × (n ≤ q .toReceiver)
@@ -69,6 +73,35 @@ meet-is p q =
           simp says
           (w .0, (w .1 .0, some-is (receivers p) (λ d. covers q (receiverOn p d)) .0 (b .1 (w .1 .1 .0, w .1 .1 .1, covers-is q _ .1 (w .1 .1 .2))))),
     )
+
+-- a number of both intervals
+overlap : (a b c d : ℕ) → a ≤ b → c ≤ d → a ≤ d → c ≤ b → (n : ℕ) × ((a ≤ n) × (n ≤ b)) × ((c ≤ n) × (n ≤ d))
+overlap a b c d p q r s =
+    yes-no (leb a c) (λ t. let l = leb-true a c t in (c, (l, s), (omega arith, q)))
+    (λ t. let m : a ≤ c → ⊥ = λ l. t (le-leb a c l) in (a, (omega arith, p), (omega arith, r)))
+
+module _ (p q : Reach) (op : p .fromReceiver ≤ p .toReceiver) (oq : q .fromReceiver ≤ q .toReceiver) where
+  in-common : (leb (p .fromReceiver) (q .toReceiver) && leb (q .fromReceiver) (p .toReceiver))
+      ≡ some (receivers p) (λ d. covers q (receiverOn p d))
+  in-common =
+      let s = some-receiver p (covers q) in
+      let b = and-is (leb (p .fromReceiver) (q .toReceiver)) (leb (q .fromReceiver) (p .toReceiver)) in
+      agree _ _
+      (λ t.
+      let y = b .0 t in
+      let o = overlap (p .fromReceiver) (p .toReceiver) (q .fromReceiver) (q .toReceiver) op oq (leb-true _ _ (y .0)) (leb-true _ _ (y .1)) in
+      s .1 (o .0, o .1, covers-is q (o .0) .1 (o .2)))
+      (λ t.
+      let o = s .0 t in
+      let u = o .1 in
+      let z = covers-is q (o .0) .0 (o .2) in
+      b .1 (le-leb (p .fromReceiver) (q .toReceiver) (omega arith), le-leb (q .fromReceiver) (p .toReceiver) (omega arith)))
+
+  pub meet-overlap : (sameName (p .receiver) (q .receiver)
+      && (eqb (p .receiverIndex) (q .receiverIndex) && (leb (p .fromReceiver) (q .toReceiver) && leb (q .fromReceiver) (p .toReceiver))))
+      ≡ meet p q
+  unfolding meet
+  meet-overlap = ap (λ (t : Bool). sameName (p .receiver) (q .receiver) && (eqb (p .receiverIndex) (q .receiverIndex) && t)) in-common
 
 pub record Sound (mostChannel : ℕ) (q : Reach) : Type 0 where
   pub one : 1 ≤ q .step

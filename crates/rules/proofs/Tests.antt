@@ -1,5 +1,6 @@
 -- What each test says: the laws by which a rule's computed test is read as the paper's statement.
 --   says   = those laws, for `simp`
+--   agree  = two tests are one where each passes with the other
 --   more   = a place below n + 1 is below n, or n
 use Prim.Native.Nat.{ℕ, zero, suc, _≤_, _<_}
 use native.Mathlib.Nat.{not-suc-le-zero, eq-or-lt-of-le, le-of-suc-le-suc, lt-suc-self}
@@ -16,6 +17,11 @@ use Rattle.rules.specs.Names.{Name, text, sameName}
 
 pub clash {ℓ} : {A : Type ℓ} → false ≡ true → A
 clash e = absurd (let z : _≡_ {A = ℕ} 0 1 = cc in omega arith)
+
+pub agree : (s t : Bool) → (s ≡ true → t ≡ true) → (t ≡ true → s ≡ true) → s ≡ t
+agree true t f g = sym (f refl)
+agree false true f g = g refl
+agree false false f g = refl
 
 pub and-is : (a b : Bool) → (a && b ≡ true) ↔ ((a ≡ true) × (b ≡ true))
 and-is true b = (λ e. (refl, e), λ h. h .1)

@@ -8,9 +8,8 @@ use lib.Dec.{leb, ltb}
 use lib.ListN.{getD}
 use borrow.Author.Tests.{eq-eqb, ne-eqb, ltb-true, lt-ltb, le-leb, leb-true}
 use Rattle.rules.specs.Places.{least}
-use Rattle.rules.proofs.Tests.{clash, and-is, yes-no}
+use Rattle.rules.proofs.Tests.{clash, agree, and-is, yes-no}
 use Rattle.rules.proofs.Least.{least-first, least-none, least-below}
-use Rattle.order.proofs.Compare.{agree}
 use Rattle.spread.specs.Halves.{notBelow, passed, rowFrom, InOrder}
 
 -- a row that is not below, by what the code compares

@@ -14,7 +14,7 @@ use Rattle.rules.specs.Relations.{Reach, reach, reachAt}
 use Rattle.rules.specs.Cover.{receiverOn, carries, leads, component}
 use Rattle.rules.specs.Order.{receiverLine, rule10}
 use Rattle.rules.specs.Check.{rules, verdict}
-use Rattle.rules.proofs.Tests.{clash}
+use Rattle.rules.proofs.Tests.{clash, agree}
 use Rattle.rules.proofs.Breach.{run-met}
 use Rattle.rules.proofs.Cover.{Covers, Sound, carries-is, reached}
 use Rattle.rules.proofs.Form.{data-is, point-is}
@@ -28,7 +28,7 @@ use Rattle.tables.specs.Scan.{above}
 use Rattle.rows.specs.Numbers.{mark}
 use Rattle.order.specs.Held.{Known, HoldsPoints}
 use Rattle.order.proofs.Known.{receiver-wide, receiver-index, from-small}
-use Rattle.order.proofs.Compare.{agree, key-is}
+use Rattle.order.proofs.Compare.{key-is}
 use Rattle.order.proofs.Last.{point-off}
 use Rattle.order.proofs.Walk.{in-order as rows-rise}
 use Rattle.sets.proofs.Answers.{known, first-met, then-met}

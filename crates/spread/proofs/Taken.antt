@@ -13,8 +13,7 @@ use lib.ListN.{length, getD, set, length-set}
 use lib.Seq.{getD-set-same, getD-set-other, ext-getD}
 use borrow.Author.Tests.{eqb-true, eq-eqb, leb-true, le-leb, lt-ltb, le-ltb, ltb-true}
 use Rattle.rules.specs.Places.{pick}
-use Rattle.rules.proofs.Tests.{clash, and-is, yes-no}
-use Rattle.order.proofs.Compare.{agree}
+use Rattle.rules.proofs.Tests.{clash, agree, and-is, yes-no}
 use Rattle.spread.specs.Takes.{between, Takes}
 
 and-false : (a : Bool) → (a && false) ≡ false
