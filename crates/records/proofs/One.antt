@@ -2,6 +2,24 @@
 -- paper's row, and not how a kind of field is kept; those of `straight` say only what follows where they are true.
 use mathlib.Core.Path.{refl, sym, _∙_}
 use Rattle.outcome.specs.One.{One}
+use Rattle.records.proofs.cover.traces as traces
+use Rattle.records.proofs.cover.traces.Reads as traces-reads
+use Rattle.records.proofs.cover.carries as carries
+use Rattle.records.proofs.cover.carries.Reads as carries-reads
+use Rattle.records.proofs.cover.receivers as receivers
+use Rattle.records.proofs.cover.receivers.Reads as receivers-reads
+use Rattle.records.proofs.cover.receiver_on as receiver-on
+use Rattle.records.proofs.cover.receiver_on.Reads as receiver-on-reads
+use Rattle.records.proofs.cover.covers as covers
+use Rattle.records.proofs.cover.covers.Reads as covers-reads
+use Rattle.records.proofs.cover.leads as leads
+use Rattle.records.proofs.cover.leads.Reads as leads-reads
+use Rattle.records.proofs.cover.component as component
+use Rattle.records.proofs.cover.component.Reads as component-reads
+use Rattle.records.proofs.cover.channel_of as channel-of
+use Rattle.records.proofs.cover.channel_of.Reads as channel-of-reads
+use Rattle.records.proofs.cover.meets as meets
+use Rattle.records.proofs.cover.meets.Reads as meets-reads
 use Rattle.records.proofs.fits.is_header as is-header
 use Rattle.records.proofs.fits.is_header.Reads as is-header-reads
 use Rattle.records.proofs.fits.is_marker as is-marker
@@ -22,6 +40,7 @@ use Rattle.records.proofs.relation.relation_of as relation-of
 use Rattle.records.proofs.relation.relation_of.Reads as relation-of-reads
 use Rattle.records.proofs.table.row_count as row-count
 use Rattle.records.proofs.table.row_count.Reads as row-count-reads
+use Rattle.records.proofs.Reaches.{Ordered, one-value}
 use Rattle.lines.proofs.One.{verdict-one}
 
 pub is-header-one : One is-header.ended is-header-reads.Post
@@ -53,3 +72,35 @@ relation-of-one κs a v v′ w w′ p p′ = (p ∙ sym p′, refl)
 
 pub row-count-one : One row-count.ended row-count-reads.Post
 row-count-one κs a v v′ w w′ p p′ = (p ∙ sym p′, refl)
+
+-- what is promised of every reach of the paper that a value codes
+pub traces-one : One traces.ended traces-reads.Post
+traces-one κs a v v′ w w′ p p′ = (one-value (a .0) _ v v′ p p′, refl)
+
+pub carries-one : One carries.ended carries-reads.Post
+carries-one κs a v v′ w w′ p p′ = (one-value (a .0) _ v v′ p p′, refl)
+
+pub receivers-one : One receivers.ended receivers-reads.Post
+receivers-one κs a v v′ w w′ p p′ = (one-value (a .0) _ v v′ p p′, refl)
+
+pub receiver-on-one : One receiver-on.ended receiver-on-reads.Post
+receiver-on-one κs a v v′ w w′ p p′ = (one-value (a .0) _ v v′ p p′, refl)
+
+pub covers-one : One covers.ended covers-reads.Post
+covers-one κs a v v′ w w′ p p′ = (one-value (a .0) _ v v′ p p′, refl)
+
+pub leads-one : One leads.ended leads-reads.Post
+leads-one κs a v v′ w w′ p p′ = (one-value (a .0) _ v v′ p p′, refl)
+
+pub component-one : One component.ended component-reads.Post
+component-one κs a v v′ w w′ p p′ = (one-value (a .0) _ v v′ p p′, refl)
+
+pub channel-of-one : One channel-of.ended channel-of-reads.Post
+channel-of-one κs a v v′ w w′ p p′ = (one-value (a .0) _ v v′ p p′, refl)
+
+-- that of `meets` is of reaches that 5 and 6 leave
+pub meets-one : One meets.ended (λ κs a v x. (Ordered (a .0) × Ordered (a .1 .0)) × meets-reads.Post κs a v x)
+meets-one κs a v v′ w w′ p p′ =
+    let s = p .0 .0 in
+    let t = p .0 .1 in
+    (p .1 (s .0) (t .0) (s .1) (t .1) (s .2) (t .2) ∙ sym (p′ .1 (s .0) (t .0) (s .1) (t .1) (s .2) (t .2)), refl)

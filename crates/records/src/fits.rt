@@ -11,6 +11,7 @@ ghost use Rattle.rules.specs.Relations.{reach as reachOf};
 ghost use Rattle.lines.specs.Paper.{paper};
 ghost use Rattle.fields.specs.Paper.{sized};
 ghost use Rattle.records.specs.Coded.{rowOf, rowsOf, rowFits};
+use crate::cover;
 use crate::relation;
 use crate::straight;
 use crate::table;
@@ -122,15 +123,15 @@ pub fn rule6(l: &[u8; 80], k: usize) -> Verdict
     if q.to_receiver < q.from_receiver {
         return lines::at_line(6, 3, k, 64);
     }
-    let n = q.upto + 1 - q.from;
-    let i = q.step;
+    let n = cover::traces(q);
+    let i = q.step as u64;
     if i == 0 {
         return lines::at_line(6, 3, k, 47);
     }
     if n % i != 0 {
         return lines::at_line(6, 3, k, 47);
     }
-    if n / i != q.to_receiver + 1 - q.from_receiver {
+    if n / i != cover::receivers(q) {
         return lines::at_line(6, 3, k, 72);
     }
     Verdict::Fine

@@ -1,10 +1,9 @@
 -- `records::fits::rule6` meets its contract. Assumes nothing.
-use Rattle.records.proofs.Six.{last-small, six-channels, six-count, six-fine, six-multiple, six-none, six-receivers, upto-small}
+use Rattle.records.proofs.Six.{six-channels, six-count, six-fine, six-multiple, six-none, six-receivers}
 use Rattle.rules.specs.Layout.{sps93}
 use Rattle.rules.specs.Relations.{reach}
 use mathlib.Core.Path.{_∙_}
 use borrow.Author.Needs.{needs}
-use native.Mathlib.Omega.{arith}
 use Rattle.records.proofs.fits.rule6.Statement.{statement}
 use Rattle.records.proofs.fits.rule6.Tie as tie
 
@@ -17,7 +16,10 @@ at-line-requires c κs = search needs
 returns : tie.Need-returns
 returns c =
     let d = c .before in
-    c .at-line .ensures ∙ six-channels _ (reach sps93 (d .before .before .before .args .l .now)) _ (d .before .before .reach-of .ensures) (d .if1 .taken)
+    let r = d .before .before in
+    let p = reach sps93 (r .before .args .l .now) in
+    let e = r .reach-of .ensures in
+    c .at-line .ensures ∙ six-channels _ p _ e (d .if1 .taken)
 
 at-line-requires-2 : tie.Need-at-line-requires-2
 at-line-requires-2 c κs = search needs
@@ -25,13 +27,16 @@ at-line-requires-2 c κs = search needs
 returns-2 : tie.Need-returns-2
 returns-2 c =
     let d = c .before in
-    c .at-line2 .ensures ∙ six-receivers _ (reach sps93 (d .before .before .before .before .before .args .l .now)) _ (d .before .before .before .before .reach-of .ensures) (d .before .before .if1 .left) (d .if2 .taken)
+    let r = d .before .before .before .before in
+    let p = reach sps93 (r .before .args .l .now) in
+    let e = r .reach-of .ensures in
+    c .at-line2 .ensures ∙ six-receivers _ p _ e (d .before .before .if1 .left) (d .if2 .taken)
 
-add-n : tie.Need-add-n
-add-n c = omega (arith, upto-small (c .before .before .before .before .before .before .args .l .now) _ (c .before .before .before .before .before .reach-of .ensures))
+traces-requires : tie.Need-traces-requires
+traces-requires c κs = search needs
 
-sub-n : tie.Need-sub-n
-sub-n c = search needs
+cast-i : tie.Need-cast-i
+cast-i c = search needs
 
 at-line-requires-3 : tie.Need-at-line-requires-3
 at-line-requires-3 c κs = search needs
@@ -39,7 +44,10 @@ at-line-requires-3 c κs = search needs
 returns-3 : tie.Need-returns-3
 returns-3 c =
     let d = c .before in
-    c .at-line3 .ensures ∙ six-none _ (reach sps93 (d .before .before .before .before .before .before .before .before .args .l .now)) _ (d .before .before .before .before .before .before .before .reach-of .ensures) (d .before .before .before .before .before .if1 .left) (d .before .before .before .if2 .left) (d .if3 .taken)
+    let r = d .before .before .before .before .before .before .before in
+    let p = reach sps93 (r .before .args .l .now) in
+    let e = r .reach-of .ensures in
+    c .at-line3 .ensures ∙ six-none _ p _ e (d .before .before .before .before .before .if1 .left) (d .before .before .before .if2 .left) _ (d .before .before .traces .ensures p e) (d .if3 .taken)
 
 rem-if4 : tie.Need-rem-if4
 rem-if4 c = search needs
@@ -50,16 +58,16 @@ at-line-requires-4 c κs = search needs
 returns-4 : tie.Need-returns-4
 returns-4 c =
     let d = c .before in
-    c .at-line4 .ensures ∙ six-multiple _ (reach sps93 (d .before .before .before .before .before .before .before .before .before .args .l .now)) _ (d .before .before .before .before .before .before .before .before .reach-of .ensures) (d .before .before .before .before .before .before .if1 .left) (d .before .before .before .before .if2 .left) (d .if4 .taken)
+    let r = d .before .before .before .before .before .before .before .before in
+    let p = reach sps93 (r .before .args .l .now) in
+    let e = r .reach-of .ensures in
+    c .at-line4 .ensures ∙ six-multiple _ p _ e (d .before .before .before .before .before .before .if1 .left) (d .before .before .before .before .if2 .left) _ (d .before .before .before .traces .ensures p e) (d .if4 .taken)
 
 div-if5 : tie.Need-div-if5
 div-if5 c = search needs
 
-add-if5 : tie.Need-add-if5
-add-if5 c = omega (arith, last-small (c .before .before .before .before .before .before .before .before .before .before .args .l .now) _ (c .before .before .before .before .before .before .before .before .before .reach-of .ensures))
-
-sub-if5 : tie.Need-sub-if5
-sub-if5 c = search needs
+receivers-requires : tie.Need-receivers-requires
+receivers-requires c κs = search needs
 
 at-line-requires-5 : tie.Need-at-line-requires-5
 at-line-requires-5 c κs = search needs
@@ -67,10 +75,17 @@ at-line-requires-5 c κs = search needs
 returns-5 : tie.Need-returns-5
 returns-5 c =
     let d = c .before in
-    c .at-line5 .ensures ∙ six-count _ (reach sps93 (d .before .before .before .before .before .before .before .before .before .before .before .before .args .l .now)) _ (d .before .before .before .before .before .before .before .before .before .before .before .reach-of .ensures) (d .before .before .before .before .before .before .before .before .before .if1 .left) (d .before .before .before .before .before .before .before .if2 .left) (d .before .before .before .if4 .left) (d .if5 .taken)
+    let r = d .before .before .before .before .before .before .before .before .before .before in
+    let p = reach sps93 (r .before .args .l .now) in
+    let e = r .reach-of .ensures in
+    c .at-line5 .ensures ∙ six-count _ p _ e (d .before .before .before .before .before .before .before .before .if1 .left) (d .before .before .before .before .before .before .if2 .left) _ (d .before .before .before .before .before .traces .ensures p e) (d .before .before .if4 .left) _ (d .before .receivers .ensures p e) (d .if5 .taken)
 
 returns-6 : tie.Need-returns-6
-returns-6 c = six-fine _ (reach sps93 (c .before .before .before .before .before .before .before .before .before .before .before .before .args .l .now)) _ (c .before .before .before .before .before .before .before .before .before .before .before .reach-of .ensures) (c .before .before .before .before .before .before .before .before .before .if1 .left) (c .before .before .before .before .before .before .before .if2 .left) (c .before .before .before .if4 .left) (c .if5 .left)
+returns-6 c =
+    let r = c .before .before .before .before .before .before .before .before .before .before in
+    let p = reach sps93 (r .before .args .l .now) in
+    let e = r .reach-of .ensures in
+    six-fine _ p _ e (c .before .before .before .before .before .before .before .before .if1 .left) (c .before .before .before .before .before .before .if2 .left) _ (c .before .before .before .before .before .traces .ensures p e) (c .before .before .if4 .left) _ (c .before .receivers .ensures p e) (c .if5 .left)
 
 pub rule6-spec : {M : Type 1} → statement M
 rule6-spec =
@@ -81,16 +96,15 @@ rule6-spec =
     returns
     at-line-requires-2
     returns-2
-    add-n
-    sub-n
+    traces-requires
+    cast-i
     at-line-requires-3
     returns-3
     rem-if4
     at-line-requires-4
     returns-4
     div-if5
-    add-if5
-    sub-if5
+    receivers-requires
     at-line-requires-5
     returns-5
     returns-6)
