@@ -1,7 +1,10 @@
 -- The contracts of this crate leave one outcome: any two results that meet one of them are the same. That of `row_at` fixes the
 -- paper's row, and not how a kind of field is kept; those of `straight` say only what follows where they are true.
-use mathlib.Core.Path.{refl, sym, _∙_}
+use mathlib.Core.Path.{_≡_, refl, sym, _∙_}
+use Rattle.rules.specs.Relations.{Reach as PaperReach}
 use Rattle.outcome.specs.One.{One}
+use Rattle.records.specs.Coded.{Ordered, codedReach}
+use Rattle.records.specs.declared.relation.Reach.{Reach}
 use Rattle.records.proofs.cover.traces as traces
 use Rattle.records.proofs.cover.traces.Reads as traces-reads
 use Rattle.records.proofs.cover.carries as carries
@@ -40,7 +43,7 @@ use Rattle.records.proofs.relation.relation_of as relation-of
 use Rattle.records.proofs.relation.relation_of.Reads as relation-of-reads
 use Rattle.records.proofs.table.row_count as row-count
 use Rattle.records.proofs.table.row_count.Reads as row-count-reads
-use Rattle.records.proofs.Reaches.{Ordered, one-value}
+use Rattle.records.proofs.Reaches.{one-value}
 use Rattle.lines.proofs.One.{verdict-one}
 
 pub is-header-one : One is-header.ended is-header-reads.Post
@@ -98,8 +101,11 @@ component-one κs a v v′ w w′ p p′ = (one-value (a .0) _ v v′ p p′, re
 pub channel-of-one : One channel-of.ended channel-of-reads.Post
 channel-of-one κs a v v′ w w′ p p′ = (one-value (a .0) _ v v′ p p′, refl)
 
--- that of `meets` is of reaches that 5 and 6 leave
-pub meets-one : One meets.ended (λ κs a v x. (Ordered (a .0) × Ordered (a .1 .0)) × meets-reads.Post κs a v x)
+-- that of `meets` is of two such reaches whose names are of bytes and whose receivers are in order
+abbrev InOrder : Reach → Type 0
+InOrder q = (p : PaperReach) × (q ≡ codedReach p) × Ordered p
+
+pub meets-one : One meets.ended (λ κs a v x. (InOrder (a .0) × InOrder (a .1 .0)) × meets-reads.Post κs a v x)
 meets-one κs a v v′ w w′ p p′ =
     let s = p .0 .0 in
     let t = p .0 .1 in

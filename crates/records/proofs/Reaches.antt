@@ -1,6 +1,5 @@
 -- What the code computes of a relation line, from the values that it holds.
 --   paperReach q   = a reach of the paper that q codes
---   Ordered q      = one whose name is of bytes, and whose receivers are in order
 use Prim.Native.Nat.{ℕ, _+_, _-_, _*_, _/_, _%_, _≤_, _<_}
 use native.Mathlib.Nat.{div-le-self, mod-le, mul-le-mul-left}
 use native.Mathlib.Omega.{arith}
@@ -15,9 +14,8 @@ use Rattle.rules.specs.Cover.{traces, carries, receivers, receiverOn, covers, l
 use Rattle.rules.proofs.Cover.{meet-overlap}
 use Rattle.fields.specs.declared.Name.{Name}
 use Rattle.fields.specs.Packed.{packedAfter, packed, nameOf}
-use Rattle.fields.specs.Texts.{Wide}
 use Rattle.fields.proofs.Texts.{names-equal}
-use Rattle.records.specs.Coded.{codedReach}
+use Rattle.records.specs.Coded.{Ordered, codedReach}
 use Rattle.records.specs.declared.relation.Reach.{Reach}
 
 alone : (n : ℕ) → n ≡ packed (n ∷ [])
@@ -63,9 +61,6 @@ reach-coded q = λ i.
 pub one-value : {A : Type 0} (q : Reach) (f : PaperReach → A) (v w : A) → ((p : PaperReach) → q ≡ codedReach p → v ≡ f p)
     → ((p : PaperReach) → q ≡ codedReach p → w ≡ f p) → v ≡ w
 one-value q f v w h g = h (paperReach q) (reach-coded q) ∙ sym (g (paperReach q) (reach-coded q))
-
-abbrev pub Ordered : Reach → Type 0
-Ordered q = (p : PaperReach) × (q ≡ codedReach p) × (Wide (p .receiver) × (p .fromReceiver ≤ p .toReceiver))
 
 module _ (p : PaperReach) (q : Reach) (e : q ≡ codedReach p) where
   pub from-is : q .from ≡ p .from
@@ -154,7 +149,8 @@ pub product-small : (n f i : ℕ) → n < 4294967296 → i < 256 → (n - f) * i
 product-small n f i h g = let l : (n - f) * i ≤ (n - f) * 256 = mul-le-mul-left (n - f) (omega arith) in omega arith
 
 -- receivers in common
-module _ (p q : PaperReach) (a b : Reach) (e : a ≡ codedReach p) (f : b ≡ codedReach q) (w : Wide (p .receiver) × (p .fromReceiver ≤ p .toReceiver)) (v : Wide (q .receiver) × (q .fromReceiver ≤ q .toReceiver)) (t : Bool) (s : t ≡ (eqb (a .receiver .hi) (b .receiver .hi) && eqb (a .receiver .lo) (b .receiver .lo))) where
+module _ (p q : PaperReach) (a b : Reach) (e : a ≡ codedReach p) (f : b ≡ codedReach q) (w : Ordered p) (v : Ordered q) (t : Bool)
+    (s : t ≡ (eqb (a .receiver .hi) (b .receiver .hi) && eqb (a .receiver .lo) (b .receiver .lo))) where
   one-name : t ≡ sameName (p .receiver) (q .receiver)
   one-name =
       s ∙ ap₂ (λ (m n : Name). eqb (m .hi) (n .hi) && eqb (m .lo) (n .lo)) (name-is p a e) (name-is q b f)

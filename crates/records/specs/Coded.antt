@@ -4,8 +4,9 @@
 --   rowsOf t     = the table t
 --   noRow        = what stands beyond a table's end
 --   rowFits m l w = the field of row w of line l obeys its rule, or is free in the marker that m says l is
+--   Ordered q    = a reach whose name is of bytes, and whose receivers are in order
 --   codedReach q, codedRelation v, codedPoint v = the paper's values as the code holds them
-use Prim.Native.Nat.{ℕ}
+use Prim.Native.Nat.{ℕ, _≤_}
 use lib.IntN.{ℤ}
 use mathlib.Core.Bool.{Bool, true, false, _&&_, _||_}
 use mathlib.Core.List.{List}
@@ -14,6 +15,7 @@ use Rattle.rules.specs.Kinds.{Kind, startsNonBlank, mayBeBlank, fits}
 use Rattle.rules.specs.Points.{Held as PaperHeld, absent, held, Point as PaperPoint}
 use Rattle.rules.specs.Relations.{Reach as PaperReach, Relation as PaperRelation}
 use Rattle.fields.specs.Packed.{packed, nameOf}
+use Rattle.fields.specs.Texts.{Wide}
 use Rattle.rules.specs.Rows.{Row as PaperRow, headerRows, pointRows, relationRows}
 use Rattle.fields.specs.Paper.{kind}
 use Rattle.fields.specs.declared.Kind.{Kind as CodeKind}
@@ -51,6 +53,9 @@ noRow = record { columns = record { first = 0; last = 0 }; kind = startsNonBlank
 
 unfoldable pub rowFits : Bool → List ℕ → PaperRow → Bool
 rowFits m l w = (w .freeInMarker && m) || fits (w .kind) (at l (w .columns))
+
+abbrev pub Ordered : PaperReach → Type 0
+Ordered q = Wide (q .receiver) × (q .fromReceiver ≤ q .toReceiver)
 
 abbrev pub codedReach : PaperReach → Reach
 codedReach q =

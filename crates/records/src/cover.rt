@@ -3,9 +3,9 @@
 ghost use mathlib.Core.Path.{_≡_};
 ghost use Prim.Native.Nat.{ℕ, _≤_, _<_};
 ghost use Rattle.rules.specs.Relations.{Reach as PaperReach};
-ghost use Rattle.rules.specs.Cover.{traces as tracesOf, carries as carriesOf, receivers as receiversOf, receiverOn, covers as coversOf, leads as leadsOf, component as componentOf, channelOf, meet};
-ghost use Rattle.fields.specs.Texts.{Wide};
-ghost use Rattle.records.specs.Coded.{codedReach};
+ghost use Rattle.rules.specs.Cover.{traces as tracesOf, carries as carriesOf, receivers as receiversOf, receiverOn, covers as coversOf};
+ghost use Rattle.rules.specs.Cover.{leads as leadsOf, component as componentOf, channelOf, meet};
+ghost use Rattle.records.specs.Coded.{Ordered, codedReach};
 use crate::relation::Reach;
 use fields::names;
 
@@ -84,7 +84,7 @@ pub fn channel_of(q: Reach, n: u64, m: u64) -> u64
 
 // Both cover one receiver: of one name and index, and each begins before the other ends.
 pub fn meets(a: Reach, b: Reach) -> bool
-    ensures value { λ t. ⌜ ((p q : PaperReach) → a ≡ codedReach p → b ≡ codedReach q → Wide (p .receiver) × (p .fromReceiver ≤ p .toReceiver) → Wide (q .receiver) × (q .fromReceiver ≤ q .toReceiver) → t ≡ meet p q) ⌝ }
+    ensures value { λ t. ⌜ ((p q : PaperReach) → a ≡ codedReach p → b ≡ codedReach q → Ordered p → Ordered q → t ≡ meet p q) ⌝ }
 {
     let m = a.receiver;
     let n = b.receiver;
