@@ -4,6 +4,9 @@
 
 static const uint8_t tape[] = {'1', '0', '0', ' ', ' ', ' '};
 
+/* The last header line of set A, and the three lines below it. */
+enum { LAST_HEADER = 21, FIRST, SECOND, THIRD };
+
 /* What stands in memory that is lent to be written. */
 enum { STAYS = 0xEE };
 
@@ -42,14 +45,14 @@ static void accepted(struct set set)
 static void lookups(struct set set)
 {
     uint64_t trace = sps_trace(FILES(set), tape, 6, 11, 2);
-    SAME(trace, 23 * 16 + 1);
+    SAME(trace, SECOND * 16 + 1);
     SAME(sps_is_refused(trace), 0);
-    SAME(sps_trace_line(trace), 23);
+    SAME(sps_trace_line(trace), SECOND);
     SAME(sps_trace_component(trace), 1);
-    SAME(sps_channel(FILES(set), tape, 6, 11, 23, 1), 2);
+    SAME(sps_channel(FILES(set), tape, 6, 11, SECOND, 1), 2);
     SAME(sps_trace(FILES(set), tape, 6, 11, 4), 0);
     SAME(sps_trace(FILES(set), tape, 6, 12, 2), 0);
-    SAME(sps_channel(FILES(set), tape, 6, 11, 21, 1), 0);
+    SAME(sps_channel(FILES(set), tape, 6, 11, LAST_HEADER, 1), 0);
     SAME(sps_channel(FILES(set), tape, 6, 11, 9999, 9), 0);
 }
 
@@ -64,8 +67,8 @@ static void out_of_range(struct set set)
     SAME(sps_trace(FILES(set), tape, 6, (UINT64_C(1) << 32) + 11, 2), no);
     SAME(sps_trace(FILES(set), tape, 6, 11, UINT64_MAX), no);
     SAME(sps_channel(FILES(set), tape, 6, 11, 0, 1), no);
-    SAME(sps_channel(FILES(set), tape, 6, 11, 23, 10), no);
-    SAME(sps_channel(FILES(set), tape, 6, 11, 23, (UINT64_C(1) << 32) + 1), no);
+    SAME(sps_channel(FILES(set), tape, 6, 11, SECOND, 10), no);
+    SAME(sps_channel(FILES(set), tape, 6, 11, SECOND, (UINT64_C(1) << 32) + 1), no);
     SAME(sps_spread(FILES(set), tape, 6, UINT64_MAX, lines, 6, components, 3), no);
 }
 
@@ -81,7 +84,7 @@ static void spread(struct set set, uint64_t record, size_t lines_len, size_t com
     SAME(sps_spread(FILES(set), tape, 6, record, lines, lines_len, components, components_len),
          expected);
     for (at = 1; at <= places; at++) {
-        SAME(sps_spread_line(lines, at), 21 + at);
+        SAME(sps_spread_line(lines, at), LAST_HEADER + at);
         SAME(lines[2 * at - 1], 0);
         SAME(components[at - 1], 1);
     }
@@ -118,7 +121,7 @@ static void nothing(struct set set)
     const uint64_t no_header = refusal(SPS_HEADER_TYPE, SPS_R, 1, 0);
     refused(none, no_header);
     SAME(sps_trace(FILES(none), tape, 6, 11, 2), no_header);
-    SAME(sps_channel(FILES(none), tape, 6, 11, 23, 1), no_header);
+    SAME(sps_channel(FILES(none), tape, 6, 11, SECOND, 1), no_header);
     SAME(sps_spread(FILES(none), tape, 6, 11, NULL, 0, NULL, 0), no_header);
     one.s = none.s;
     refused(one, refusal(SPS_HEADER_DIFFERS, SPS_S, 1, 0));
@@ -135,28 +138,28 @@ static void edits(struct set set)
     cut.r.len = 81;
     refused(cut, refusal(SPS_FILE_LENGTH, SPS_R, 1, 0));
 
-    put(set.x, 22, 43, "   4");
+    put(set.x, FIRST, 43, "   4");
     answer = sps_check(FILES(set));
     SAME(sps_is_refused(answer), 1);
     SAME(sps_refusal_number(answer), SPS_CHANNELS);
     SAME(sps_refusal_file(answer), SPS_X);
-    SAME(sps_refusal_line(answer), 22);
+    SAME(sps_refusal_line(answer), FIRST);
     SAME(sps_refusal_column(answer), 72);
-    refused(set, refusal(6, 3, 22, 72));
+    refused(set, refusal(6, 3, FIRST, 72));
     SAME(sps_trace(FILES(set), tape, 6, 11, 2), answer);
     SAME(sps_trace(FILES(set), tape, 6, 12, 2), answer);
-    SAME(sps_channel(FILES(set), tape, 6, 11, 23, 1), answer);
+    SAME(sps_channel(FILES(set), tape, 6, 11, SECOND, 1), answer);
     spread(set, 11, 6, 3, answer, 0);
     spread(set, 11, 0, 0, answer, 0);
-    put(set.x, 22, 43, "   3");
+    put(set.x, FIRST, 43, "   3");
 
-    put(set.r, 24, 18, "     102");
-    refused(set, refusal(SPS_RECEIVER_ORDER, SPS_R, 24, 2));
-    put(set.r, 24, 18, "     103");
+    put(set.r, THIRD, 18, "     102");
+    refused(set, refusal(SPS_RECEIVER_ORDER, SPS_R, THIRD, 2));
+    put(set.r, THIRD, 18, "     103");
 
-    put(set.s, 22, 82, "\r");
-    refused(set, refusal(SPS_BYTE, SPS_S, 22, 82));
-    put(set.s, 22, 82, "\n");
+    put(set.s, FIRST, 82, "\r");
+    refused(set, refusal(SPS_BYTE, SPS_S, FIRST, 82));
+    put(set.s, FIRST, 82, "\n");
     accepted(set);
 }
 

@@ -13,6 +13,9 @@ using Bytes = std::vector<std::uint8_t>;
 
 int failures = 0;
 
+// The receivers of set A by their lines in R.
+const unsigned FIRST = 22, SECOND = 23, THIRD = 24;
+
 template <typename Found, typename Expected>
 void same(const char *what, const Found &found, const Expected &expected)
 {
@@ -65,20 +68,20 @@ void answers(const Set &set)
     std::array<std::uint64_t, 4> counts = {{0, 0, 0, 0}};
     const std::array<std::uint64_t, 4> expected = {{3, 1, 1, 3}};
     Bytes lines(9, 0xEE), components(4, 0xEE);
-    const Bytes written = {22, 0, 23, 0, 24, 0, 0xEE, 0xEE, 0xEE}, ones = {1, 1, 1, 0xEE};
+    const Bytes written = {FIRST, 0, SECOND, 0, THIRD, 0, 0xEE, 0xEE, 0xEE}, ones = {1, 1, 1, 0xEE};
 
     same("the check", set.check(), 3u);
     same("the answer with counts", set.counts(counts), 3u);
     same("the counts", counts, expected);
     const std::uint64_t trace = set.trace(tape, 11, 3);
-    same("the R line", sps_trace_line(trace), 24u);
+    same("the R line", sps_trace_line(trace), THIRD);
     same("the component", sps_trace_component(trace), 1u);
-    same("the way back", set.channel(tape, 11, 24, 1), 3u);
+    same("the way back", set.channel(tape, 11, THIRD, 1), 3u);
     same("no trace", set.trace(tape, 11, 4), 0u);
     same("the highest channel", set.spread(tape, 11, lines, components), 3u);
     same("the lines", lines, written);
     same("the components", components, ones);
-    same("a line of the table", sps_spread_line(lines.data(), 3), 24u);
+    same("a line of the table", sps_spread_line(lines.data(), 3), THIRD);
     same("a tape too short", sps_refusal_number(set.trace({'1'}, 11, 3)), SPS_QUESTION_RANGE);
 }
 
@@ -91,7 +94,7 @@ void refusals(Set set)
     same("is refused", sps_is_refused(answer), 1);
     same("the number", sps_refusal_number(answer), SPS_FILE_LENGTH);
     same("the file", sps_refusal_file(answer), SPS_R);
-    same("the line", sps_refusal_line(answer), 25u);
+    same("the line", sps_refusal_line(answer), THIRD + 1);
     same("the column", sps_refusal_column(answer), 0u);
     same("the counts of a refusal", counts, stays);
     same("an empty set", sps_refusal_number(Set().check()), SPS_HEADER_TYPE);

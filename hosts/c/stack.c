@@ -1,6 +1,6 @@
 /*
- * Every call in a thread whose stack is less than 1 MB. The argument is the folder of a set of 9,999
- * lines a file. It prints the five answers in one line.
+ * Every call in a thread whose stack is less than 1 MB. The arguments are the folder of a set of 9,999
+ * lines a file and its last record. It prints the five answers in one line.
  */
 #include "try.h"
 #include <pthread.h>
@@ -15,6 +15,7 @@ static uint8_t lines[19998], components[9999];
 /* The five answers of a set. */
 struct answers {
     struct set set;
+    uint64_t record;
     uint64_t check, counts, trace, channel, spread;
 };
 
@@ -24,9 +25,9 @@ static void *ask(void *lent)
     uint64_t counts[4];
     to->check = sps_check(FILES(to->set));
     to->counts = sps_counts(FILES(to->set), counts);
-    to->trace = sps_trace(FILES(to->set), tape, 6, 9977, 200);
-    to->channel = sps_channel(FILES(to->set), tape, 6, 9977, 9999, 1);
-    to->spread = sps_spread(FILES(to->set), tape, 6, 9977, lines, sizeof lines, components,
+    to->trace = sps_trace(FILES(to->set), tape, 6, to->record, 200);
+    to->channel = sps_channel(FILES(to->set), tape, 6, to->record, 9999, 1);
+    to->spread = sps_spread(FILES(to->set), tape, 6, to->record, lines, sizeof lines, components,
                             sizeof components);
     return NULL;
 }
@@ -36,12 +37,13 @@ int main(int count, char **words)
     struct answers to;
     pthread_attr_t small;
     pthread_t thread;
-    if (count != 2) {
-        fprintf(stderr, "usage: %s FOLDER\n", words[0]);
+    if (count != 3) {
+        fprintf(stderr, "usage: %s FOLDER RECORD\n", words[0]);
         return 2;
     }
     memset(&to, 0, sizeof to);
     to.set = read_set(words[1]);
+    to.record = strtoull(words[2], NULL, 10);
     if (pthread_attr_init(&small) != 0 || pthread_attr_setstacksize(&small, STACK) != 0 ||
         pthread_create(&thread, &small, ask, &to) != 0 || pthread_join(thread, NULL) != 0) {
         fprintf(stderr, "no thread of %d bytes of stack\n", STACK);

@@ -13,6 +13,9 @@ FILES = [ctypes.c_char_p, SIZE] * 3
 RECORD = [ctypes.c_char_p, SIZE, U64]
 BYTES = [ctypes.POINTER(ctypes.c_uint8), SIZE]
 
+# The receivers of set A by their lines in R.
+FIRST, SECOND, THIRD = 22, 23, 24
+
 
 def library(path):
     """The five calls with their types."""
@@ -49,14 +52,14 @@ def answers(sps, set_a):
     assert sps.sps_check(*set_a) == 3
     assert sps.sps_counts(*set_a, counts) == 3
     assert list(counts) == [3, 1, 1, 3]
-    assert sps.sps_trace(*set_a, *record, 2) == 23 * 16 + 1
-    assert sps.sps_channel(*set_a, *record, 23, 1) == 2
+    assert sps.sps_trace(*set_a, *record, 2) == SECOND * 16 + 1
+    assert sps.sps_channel(*set_a, *record, SECOND, 1) == 2
     assert sps.sps_trace(*set_a, *record, 4) == 0
 
     lines = (ctypes.c_uint8 * 7)(*[238] * 7)
     components = (ctypes.c_uint8 * 3)()
     assert sps.sps_spread(*set_a, *record, lines, 7, components, 3) == 3
-    assert bytes(lines) == bytes([22, 0, 23, 0, 24, 0, 238])
+    assert bytes(lines) == bytes([FIRST, 0, SECOND, 0, THIRD, 0, 238])
     assert bytes(components) == bytes([1, 1, 1])
 
 
@@ -65,7 +68,7 @@ def refusals(sps, set_a):
     counts = (U64 * 4)(1, 2, 3, 4)
     r, r_len = set_a[:2]
     cut = [r, r_len - 1] + set_a[2:]
-    assert sps.sps_counts(*cut, counts) == refusal(1, 1, 24, 0)
+    assert sps.sps_counts(*cut, counts) == refusal(1, 1, THIRD, 0)
     assert list(counts) == [1, 2, 3, 4]
     assert sps.sps_check(None, 0, None, 0, None, 0) == refusal(7, 1, 1, 0)
     assert sps.sps_trace(*set_a, b"100", 3, 11, 2) == refusal(20, 0, 0, 0)

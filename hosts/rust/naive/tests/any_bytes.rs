@@ -2,6 +2,7 @@
 //! its rule can name.
 
 use naive::{channel, check, show, spread, trace, File, Refusal};
+use small_sets::place::{below, first, last_header};
 use small_sets::{set_a, Line, Random, Set};
 use std::collections::BTreeSet;
 
@@ -51,7 +52,7 @@ fn ask(set: &Set) {
         hold(set, refusal);
         assert_eq!(highest, Err(refusal));
         assert_eq!(trace(r, s, x, tape, 11, 2), Err(refusal));
-        assert_eq!(channel(r, s, x, tape, 11, 23, 1), Err(refusal));
+        assert_eq!(channel(r, s, x, tape, 11, below(2) as u64, 1), Err(refusal));
         assert!(lines.iter().all(|&line| line == 7) && components.iter().all(|&c| c == 7));
         return;
     }
@@ -136,7 +137,7 @@ fn every_byte() {
 /// repeated at the end.
 fn damage(set: Set, random: &mut Random) -> Set {
     let file = FILES[random.below(3)];
-    let line = 22 + random.below(set.lines(file) - 21);
+    let line = first() + random.below(set.lines(file) - last_header());
     if random.below(4) == 0 {
         let start = (line - 1) * 82;
         let columns = set.file(file)[start..start + 80].try_into();

@@ -38,6 +38,6 @@ fn no_folder_is_left_over() {
 fn verdicts_are_the_readers() {
     for example in examples() {
         let (answer, _) = common::answer(&example.set, &Question::Check);
-        assert_eq!(answer.verdict().as_deref(), Some(example.verdict), "{}", example.name);
+        assert_eq!(answer.verdict().as_deref(), Some(example.verdict.as_str()), "{}", example.name);
     }
 }

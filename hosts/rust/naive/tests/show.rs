@@ -1,12 +1,13 @@
 //! Showing a line hands back a part of the caller's own file.
 
 use naive::show;
+use small_sets::place::{after, below, first};
 use small_sets::{receiver, set_a, shot, File};
 
 #[test]
 fn every_line_is_a_part_of_its_file() {
     let set = set_a();
-    for (letter, file, lines) in [(b'R', &set.r, 24), (b'S', &set.s, 22)] {
+    for (letter, file, lines) in [(b'R', &set.r, below(3)), (b'S', &set.s, first())] {
         for line in 1..=lines {
             let shown = show(&set.r, &set.s, letter, line);
             let part = &file[(line - 1) * 82..][..80];
@@ -14,17 +15,17 @@ fn every_line_is_a_part_of_its_file() {
             assert_eq!(shown.as_ptr(), part.as_ptr());
         }
     }
-    assert_eq!(show(&set.r, &set.s, b'R', 24), receiver(103).0);
-    assert_eq!(show(&set.r, &set.s, b'S', 22), shot(501).0);
+    assert_eq!(show(&set.r, &set.s, b'R', below(3)), receiver(103).0);
+    assert_eq!(show(&set.r, &set.s, b'S', first()), shot(501).0);
 }
 
 #[test]
 fn nothing_beside_the_files() {
     let set = set_a();
-    for line in [0, 25, usize::MAX] {
+    for line in [0, after(File::R), usize::MAX] {
         assert!(show(&set.r, &set.s, b'R', line).is_empty(), "R {line}");
     }
-    for line in [0, 23, usize::MAX] {
+    for line in [0, after(File::S), usize::MAX] {
         assert!(show(&set.r, &set.s, b'S', line).is_empty(), "S {line}");
     }
     for letter in (0..=255).filter(|letter| !b"RS".contains(letter)) {

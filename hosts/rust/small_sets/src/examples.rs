@@ -1,14 +1,17 @@
 //! Sets of the paper's table as folders to look at, with the program's line.
 
+use crate::place::{below, first};
 use crate::table::paper;
-use crate::{set_a, Set};
+use crate::table::write::{accepted, as_a, refused};
+use crate::File::{R, S, X};
+use crate::{headers_only, set_a, Answer, Set};
 
 /// A folder `examples/NAME` with `set.r01`, `set.s01`, `set.x01` and `verdict`.
 pub struct Example {
     pub name: &'static str,
     pub set: Set,
     /// With its line feed.
-    pub verdict: &'static str,
+    pub verdict: String,
 }
 
 impl Example {
@@ -24,17 +27,20 @@ impl Example {
 }
 
 pub fn examples() -> Vec<Example> {
-    let example = |name, set, verdict| Example { name, set, verdict };
+    let example = |name, set, answer: Answer| {
+        let verdict = answer.verdict().expect("the answer of a check");
+        Example { name, set, verdict }
+    };
     vec![
-        example("set_a", set_a(), "ACCEPTED 3 1 1 3\n"),
-        example("three_components", paper::three_components(), "ACCEPTED 3 1 1 9\n"),
-        example("headers_only", crate::headers_only(), "ACCEPTED 0 0 0 0\n"),
-        example("moved_name", paper::moved_name(), "REFUSED 5 X 22 14\n"),
-        example("odd_channel", paper::odd_channel(), "REFUSED 6 X 22 72\n"),
-        example("unsorted_receivers", paper::unsorted_receivers(), "REFUSED 10 R 24 2\n"),
-        example("unnamed_shot", paper::unnamed_shot(), "REFUSED 15 S 23 1\n"),
-        example("missing_receiver", paper::missing_receiver(), "REFUSED 18 X 22 64\n"),
-        example("other_blanks", paper::other_blanks(), "REFUSED 18 X 22 64\n"),
-        example("covered_twice", paper::covered_twice(), "REFUSED 19 X 23 64\n"),
+        example("set_a", set_a(), as_a()),
+        example("three_components", paper::three_components(), accepted(3, 1, 1, 9)),
+        example("headers_only", headers_only(), accepted(0, 0, 0, 0)),
+        example("moved_name", paper::moved_name(), refused(5, X, first(), 14)),
+        example("odd_channel", paper::odd_channel(), refused(6, X, first(), 72)),
+        example("unsorted_receivers", paper::unsorted_receivers(), refused(10, R, below(3), 2)),
+        example("unnamed_shot", paper::unnamed_shot(), refused(15, S, below(2), 1)),
+        example("missing_receiver", paper::missing_receiver(), refused(18, X, first(), 64)),
+        example("other_blanks", paper::other_blanks(), refused(18, X, first(), 64)),
+        example("covered_twice", paper::covered_twice(), refused(19, X, below(2), 64)),
     ]
 }

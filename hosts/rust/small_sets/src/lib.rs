@@ -11,6 +11,7 @@ mod case;
 mod examples;
 mod folders;
 mod line;
+pub mod place;
 mod random;
 mod set;
 mod table;

@@ -33,10 +33,11 @@ pub struct Set {
 
 /// The header blocks of set A: H00 to H20, H18 holding `UTM;`.
 pub fn headers_only() -> Set {
-    let block: Vec<Line> = (0..=20).map(header).collect();
-    Set::default()
-        .each(|set, file| set.add_all(file, block.iter().copied()))
-        .each(|set, file| set.put(file, 19, 33, "UTM;"))
+    let block = (0..=20).map(|number| match number {
+        18 => header(number).at(33, "UTM;"),
+        _ => header(number),
+    });
+    Set::default().each(|set, file| set.add_all(file, block.clone()))
 }
 
 /// Set A of the paper.

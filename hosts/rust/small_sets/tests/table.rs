@@ -1,5 +1,6 @@
 //! The table itself: names, and which refusals it has.
 
+use small_sets::place::{below, first, last_header};
 use small_sets::{set_a, table, Answer, File, Question};
 use std::collections::HashSet;
 
@@ -43,14 +44,15 @@ fn set_a_is_as_described() {
         let bytes = &set.file(file)[(number - 1) * 82..number * 82];
         String::from_utf8_lossy(bytes).into_owned()
     };
-    assert_eq!([24, 22, 22], File::ALL.map(|file| set.lines(file)));
-    for (number, point) in [(22, "     101"), (23, "     102"), (24, "     103")] {
+    assert_eq!(last_header(), 21);
+    assert_eq!([3, 1, 1], File::ALL.map(|file| set.lines(file) - last_header()));
+    for (n, point) in [(1, "     101"), (2, "     102"), (3, "     103")] {
         let start = ["R", "L1              ", point, "1", "G1"].concat();
-        assert_eq!(line(File::R, number), start + &REST.concat());
+        assert_eq!(line(File::R, below(n)), start + &REST.concat());
     }
     let start = ["S", "L1              ", "     501", "1", "V1"].concat();
-    assert_eq!(line(File::S, 22), start + &REST.concat());
-    assert_eq!(line(File::X, 22), RELATION.concat());
+    assert_eq!(line(File::S, first()), start + &REST.concat());
+    assert_eq!(line(File::X, first()), RELATION.concat());
     for file in File::ALL {
         for number in 0..=20 {
             let text = if number == 18 { "UTM;" } else { "" };

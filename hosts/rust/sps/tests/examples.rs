@@ -1,5 +1,6 @@
 //! What the examples print. `cargo test` builds them beside the tests.
 
+use small_sets::place::below;
 use std::path::Path;
 use std::process::Command;
 
@@ -18,14 +19,18 @@ fn printed(example: &str, folder: &str, words: &[&str], well: bool) -> String {
 fn check() {
     let accepted = "ACCEPTED 3 1 1 3\n3 receivers, 1 shots\n1 relation lines, 3 traces\n";
     assert_eq!(printed("check", "set_a", &[], true), accepted);
-    let refused = "REFUSED 10 R 24 2\nin R, line 24, column 2\nnumber 10: a receiver is not above \
-                   the receiver line before it, by line name, point number and index\n";
+    let third = below(3);
+    let refused = format!(
+        "REFUSED 10 R {third} 2\nin R, line {third}, column 2\nnumber 10: a receiver is not above \
+         the receiver line before it, by line name, point number and index\n"
+    );
     assert_eq!(printed("check", "unsorted_receivers", &[], true), refused);
 }
 
 #[test]
 fn follow() {
-    let there_and_back = "channel 6: R line 23, component 3\nand back: channel 6\n";
+    let second = below(2);
+    let there_and_back = format!("channel 6: R line {second}, component 3\nand back: channel 6\n");
     assert_eq!(printed("follow", "three_components", &["6"], true), there_and_back);
     assert_eq!(printed("follow", "three_components", &["10"], true), "channel 10: no trace\n");
     assert_eq!(printed("follow", "odd_channel", &["1"], false), "");
@@ -33,8 +38,9 @@ fn follow() {
 
 #[test]
 fn spread() {
-    let table = "highest channel 3\nchannel 1: R line 22, component 1\n\
-                 channel 2: R line 23, component 1\nchannel 3: R line 24, component 1\n";
+    let lines: String =
+        (1..=3).map(|n| format!("channel {n}: R line {}, component 1\n", below(n))).collect();
+    let table = format!("highest channel 3\n{lines}");
     assert_eq!(printed("spread", "set_a", &[], true), table);
     assert_eq!(printed("spread", "headers_only", &[], true), "highest channel 0\n");
 }

@@ -1,7 +1,8 @@
 //! Hosts in C, C++ and Python on the archive and its header: each is compiled where
 //! it has to be, and run.
 
-use many_sets::large::two_million_traces;
+use many_sets::large::{most, two_million_traces};
+use small_sets::place::{below, first};
 use small_sets::{File, Set};
 use std::ffi::OsStr;
 use std::fs;
@@ -79,10 +80,11 @@ fn c_example() {
     let example = compiled("cc", "-std=c99", "example.c", "example_c");
     let [r, s, x] = ["set.r01", "set.s01", "set.x01"].map(|name| set_a().join(name));
     let printed = run(&example, &[&r, &s, &x]);
-    assert_eq!(printed, "3 receivers, 3 traces\nR line 23, component 1\n");
+    assert_eq!(printed, format!("3 receivers, 3 traces\nR line {}, component 1\n", below(2)));
     let refused = Command::new(example).args([&r, &r, &x]).output().expect("it runs");
     assert_eq!(refused.status.code(), Some(1));
-    assert_eq!(refused.stdout, b"refused with 4: file 2, line 22, column 1\n");
+    let refusal = format!("refused with 4: file 2, line {}, column 1\n", first());
+    assert_eq!(refused.stdout, refusal.as_bytes());
 }
 
 #[test]
@@ -113,14 +115,16 @@ fn c_with_a_small_stack() {
     let stack = compiled("cc", "-std=c99", "stack.c", "stack");
     let accepted = two_million_traces();
     let refused = accepted.clone().put(File::X, 9_999, 8, "   0");
+    let traces = 200 * u64::from(most());
+    let last_record = (most() - 1).to_string();
     let refusal = (16u64 << 40) + (3 << 32) + 9_999 * 256 + 2;
     for (name, set, expected) in [
-        ("accepted", accepted, [1_995_600, 1_995_600, 9_999 * 16 + 1, 200, 200]),
+        ("accepted", accepted, [traces, traces, 9_999 * 16 + 1, 200, 200]),
         ("refused", refused, [refusal; 5]),
     ] {
         let folder = written(name, &set);
         let answers = expected.map(|number: u64| number.to_string()).join(" ") + "\n";
-        assert_eq!(run(&stack, &[&folder]), answers, "{name}");
+        assert_eq!(run(&stack, &[&folder, &last_record]), answers, "{name}");
     }
 }
 

@@ -7,6 +7,7 @@ mod seeded;
 mod shots;
 
 pub use seeded::seeded;
+use small_sets::place::most_below;
 use small_sets::{headers_only, receiver, relation, shot, File, Line, Set};
 
 /// A name, and what makes the set.
@@ -38,7 +39,9 @@ pub const WIDEST: [Large; 2] = [
 ];
 
 /// The lines below set A's header in a file of 9,999 lines.
-const MOST: u32 = 9_978;
+pub fn most() -> u32 {
+    most_below() as u32
+}
 
 /// Set A's header, and below it what stands in the lines of each file.
 fn below_header(
@@ -54,14 +57,14 @@ fn record(n: u32) -> Line {
     relation().source(n).record(n)
 }
 
-/// 9,978 receivers, shots and records; record n covers 200 receivers from its own
-/// on: 1,995,600 traces.
+/// Receivers, shots and records, as many as there can be; record n covers 200 receivers
+/// from its own on: 1,995,600 traces.
 pub fn two_million_traces() -> Set {
     let lines = |n: u32| {
-        let from = n.min(MOST - 200);
+        let from = n.min(most() - 200);
         record(n).channels(1, 200).receivers(from, from + 199)
     };
-    below_header((0..MOST).map(receiver), (0..MOST).map(shot), (0..MOST).map(lines))
+    below_header((0..most()).map(receiver), (0..most()).map(shot), (0..most()).map(lines))
 }
 
 /// Six lines of 1,659 receivers, and 1,995 shots that roll along them; each has a

@@ -1,6 +1,7 @@
 //! A survey of any number of lines a file, made from a seed.
 
 use super::below_header;
+use small_sets::place::last_header;
 use small_sets::{marker, receiver, relation, shot, File, Line, Random, Set};
 
 /// Receivers of one line whose numbers follow each other.
@@ -13,7 +14,7 @@ struct Run {
 /// So many lines in each file, from 100 on: runs of receivers with gaps, markers,
 /// and a record of one or two relation lines for each shot. It is accepted.
 pub fn seeded(random: &mut Random, lines: usize) -> Set {
-    let own = lines - 21;
+    let own = lines - last_header();
     let markers = own / 20;
     let runs = runs(random, own - markers);
     let shots = own - markers;

@@ -1,16 +1,16 @@
 //! Shots whose numbers descend while their times do not.
 
-use super::{below_header, record, MOST};
+use super::{below_header, most, record};
 use small_sets::{receiver, shot, File, Set};
 
 pub fn backwards() -> Set {
     let line = |n| record(n).channels(1, 3).receivers(101, 103);
     let receivers = [101, 102, 103].map(receiver);
-    below_header(receivers, (0..MOST).rev().map(shot), (0..MOST).rev().map(line))
+    below_header(receivers, (0..most()).rev().map(shot), (0..most()).rev().map(line))
 }
 
 pub fn again() -> Set {
-    backwards().edit(File::S, 9_999, |line| line.point(MOST - 1))
+    backwards().edit(File::S, 9_999, |line| line.point(most() - 1))
 }
 
 pub fn not_named() -> Set {
@@ -18,5 +18,5 @@ pub fn not_named() -> Set {
 }
 
 pub fn no_shot() -> Set {
-    backwards().edit(File::X, 9_999, |line| line.source(MOST))
+    backwards().edit(File::X, 9_999, |line| line.source(most()))
 }

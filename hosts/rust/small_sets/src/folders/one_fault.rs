@@ -1,6 +1,7 @@
 //! A set for each refusal number of the set check.
 
 use crate::line::{header, receiver, relation, shot, Line};
+use crate::place::{below, first, header_line};
 use crate::File::{R, S, X};
 use crate::{set_a, Set};
 
@@ -38,18 +39,18 @@ fn form() -> Vec<OneFault> {
     vec![
         fault(1, |set| set.over(S, 81)),
         fault(2, ten_thousand_lines),
-        fault(3, |set| set.byte(X, 22, 82, b' ')),
+        fault(3, |set| set.byte(X, first(), 82, b' ')),
         fault(4, |set| set.add(S, header(20))),
-        fault(5, |set| set.put(R, 23, 66, "  0.00")),
-        fault(6, |set| set.edit(X, 22, |x| x.channels(3, 1))),
+        fault(5, |set| set.put(R, below(2), 66, "  0.00")),
+        fault(6, |set| set.edit(X, first(), |x| x.channels(3, 1))),
     ]
 }
 
 fn headers() -> Vec<OneFault> {
     vec![
         fault(7, |set| set.each(|set, file| set.put(file, 3, 4, "1"))),
-        fault(8, |set| set.each(|set, file| set.put(file, 19, 33, ";UTM"))),
-        fault(9, |set| set.remove(X, 21)),
+        fault(8, |set| set.each(|set, file| set.put(file, header_line(18), 33, ";UTM"))),
+        fault(9, |set| set.remove(X, header_line(20))),
     ]
 }
 
@@ -67,19 +68,19 @@ fn second(point: u32) -> Line {
 }
 
 /// Record 11 goes on: a receiver of its own, then one that set A's line covers.
-fn below() -> [Line; 2] {
+fn two_lines() -> [Line; 2] {
     let one = |channel, point| relation().channels(channel, channel).receivers(point, point);
     [one(4, 104), one(5, 102)]
 }
 
 fn relations() -> Vec<OneFault> {
     vec![
-        fault(13, |set| set.edit(X, 22, |x| x.source_name("l1"))),
-        fault(14, |set| set.insert(S, 22, shot(502)).add(X, second(502))),
-        fault(15, |set| set.insert(S, 22, shot(500))),
+        fault(13, |set| set.edit(X, first(), |x| x.source_name("l1"))),
+        fault(14, |set| set.insert(S, first(), shot(502)).add(X, second(502))),
+        fault(15, |set| set.insert(S, first(), shot(500))),
         fault(16, |set| set.add(X, second(501)).add(X, relation())),
-        fault(17, |set| set.add(R, receiver(104)).add(X, below()[0].channels(3, 3))),
-        fault(18, |set| set.remove(R, 23)),
-        fault(19, |set| set.add(R, receiver(104)).add_all(X, below())),
+        fault(17, |set| set.add(R, receiver(104)).add(X, two_lines()[0].channels(3, 3))),
+        fault(18, |set| set.remove(R, below(2))),
+        fault(19, |set| set.add(R, receiver(104)).add_all(X, two_lines())),
     ]
 }

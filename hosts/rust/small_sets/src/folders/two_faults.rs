@@ -3,6 +3,7 @@
 
 use super::one_fault::ten_thousand_lines;
 use crate::line::{receiver, relation, shot};
+use crate::place::{below, first, header_line, last_header};
 use crate::File::{R, S, X};
 use crate::{set_a, Set};
 
@@ -43,14 +44,19 @@ fn form() -> Vec<TwoFaults> {
             "faults_03_04",
             [3, 4],
             set_a,
-            [|a| a.byte(R, 23, 81, b' '), |a| a.put(R, 23, 1, "Q")],
+            [|a| a.byte(R, below(2), 81, b' '), |a| a.put(R, below(2), 1, "Q")],
         ),
-        both("faults_04_05", [4, 5], set_a, [|a| a.put(R, 23, 1, "Q"), |a| a.put(R, 23, 2, " ")]),
+        both(
+            "faults_04_05",
+            [4, 5],
+            set_a,
+            [|a| a.put(R, below(2), 1, "Q"), |a| a.put(R, below(2), 2, " ")],
+        ),
         both(
             "faults_05_06",
             [5, 6],
             set_a,
-            [|a| a.put(X, 22, 80, "0"), |a| a.edit(X, 22, |x| x.channels(9, 3))],
+            [|a| a.put(X, first(), 80, "0"), |a| a.edit(X, first(), |x| x.channels(9, 3))],
         ),
     ]
 }
@@ -62,36 +68,36 @@ fn files() -> Vec<TwoFaults> {
             "faults_05_of_r_01_of_s",
             [5, 1],
             set_a,
-            [|a| a.put(R, 24, 80, "x"), |a| a.over(S, 1)],
+            [|a| a.put(R, below(3), 80, "x"), |a| a.over(S, 1)],
         ),
         both(
             "faults_05_of_s_01_of_x",
             [5, 1],
             set_a,
-            [|a| a.put(S, 22, 80, "x"), |a| a.over(X, 1)],
+            [|a| a.put(S, first(), 80, "x"), |a| a.over(X, 1)],
         ),
     ]
 }
 
 /// The form of X, 7, 8, 9 of S, 9 of X, then 10.
 fn headers() -> Vec<TwoFaults> {
-    let no_projection = |a: Set| a.each(|set, file| set.put(file, 19, 33, "N/A "));
-    let no_h20 = |a: Set| a.each(|set, file| set.remove(file, 21));
+    let no_projection = |a: Set| a.each(|set, file| set.put(file, header_line(18), 33, "N/A "));
+    let no_h20 = |a: Set| a.each(|set, file| set.remove(file, header_line(20)));
     vec![
-        both("faults_06_07", [6, 7], set_a, [|a| a.edit(X, 22, |x| x.channels(1, 4)), no_h20]),
+        both("faults_06_07", [6, 7], set_a, [|a| a.edit(X, first(), |x| x.channels(1, 4)), no_h20]),
         both("faults_07_08", [7, 8], set_a, [no_h20, no_projection]),
         both("faults_08_09", [8, 9], set_a, [no_projection, |a| a.put(S, 1, 5, "a")]),
         both(
             "faults_09_of_s_09_of_x",
             [9, 9],
             set_a,
-            [|a| a.put(S, 21, 80, "a"), |a| a.put(X, 1, 5, "a")],
+            [|a| a.put(S, last_header(), 80, "a"), |a| a.put(X, 1, 5, "a")],
         ),
         both(
             "faults_09_10",
             [9, 10],
             set_a,
-            [|a| a.put(X, 1, 5, "a"), |a| a.edit(R, 24, |r| r.point(1))],
+            [|a| a.put(X, 1, 5, "a"), |a| a.edit(R, below(3), |r| r.point(1))],
         ),
     ]
 }
@@ -103,11 +109,11 @@ fn two_shots() -> Set {
 
 /// 10, then 11 and 12 in one line, then 13.
 fn points() -> Vec<TwoFaults> {
-    let early = |a: Set| a.edit(S, 23, |s| s.time("000000"));
-    let repeated = |a: Set| a.edit(S, 23, |s| s.point(501));
-    let unknown = |a: Set| a.edit(X, 22, |x| x.source(900));
+    let early = |a: Set| a.edit(S, below(2), |s| s.time("000000"));
+    let repeated = |a: Set| a.edit(S, below(2), |s| s.point(501));
+    let unknown = |a: Set| a.edit(X, first(), |x| x.source(900));
     vec![
-        both("faults_10_11", [10, 11], two_shots, [|a| a.edit(R, 24, |r| r.point(1)), early]),
+        both("faults_10_11", [10, 11], two_shots, [|a| a.edit(R, below(3), |r| r.point(1)), early]),
         both("faults_11_12", [11, 12], two_shots, [early, repeated]),
         both("faults_12_13", [12, 13], two_shots, [repeated, unknown]),
     ]
@@ -126,13 +132,13 @@ fn five_receivers() -> Set {
 
 /// 13 above 14; from 14 on in one line; 15 last.
 fn relations() -> Vec<TwoFaults> {
-    let unknown = |a: Set| a.edit(X, 22, |x| x.source(900));
-    let back = |a: Set| a.edit(X, 24, |x| x.source(501));
-    let returning = |a: Set| a.edit(X, 24, |x| x.record(11));
-    let differing = |a: Set| a.edit(X, 23, |x| x.instrument("2"));
-    let overlapping = |a: Set| a.edit(X, 23, |x| x.channels(3, 4));
-    let missing = |a: Set| a.remove(R, 25);
-    let covered = |a: Set| a.edit(X, 23, |x| x.receivers(103, 104));
+    let unknown = |a: Set| a.edit(X, first(), |x| x.source(900));
+    let back = |a: Set| a.edit(X, below(3), |x| x.source(501));
+    let returning = |a: Set| a.edit(X, below(3), |x| x.record(11));
+    let differing = |a: Set| a.edit(X, below(2), |x| x.instrument("2"));
+    let overlapping = |a: Set| a.edit(X, below(2), |x| x.channels(3, 4));
+    let missing = |a: Set| a.remove(R, below(4));
+    let covered = |a: Set| a.edit(X, below(2), |x| x.receivers(103, 104));
     vec![
         both("faults_13_14", [13, 14], three_relations, [unknown, back]),
         both("faults_14_16", [14, 16], three_relations, [back, returning]),

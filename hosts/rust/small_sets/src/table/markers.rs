@@ -2,6 +2,7 @@
 
 use super::write::{accepted, as_a, check, refused};
 use crate::line::{marker, receiver, shot};
+use crate::place::{after, below, first};
 use crate::File::{self, R, S, X};
 use crate::{headers_only, set_a, Case, Line};
 
@@ -25,12 +26,12 @@ fn checked() -> Vec<Case> {
         (66, "  1.00"),
     ];
     let mut cases = Vec::new();
-    for (file, line) in [(R, 25), (S, 23)] {
+    for file in [R, S] {
         for (column, text) in bad {
             cases.push(check(
                 format!("a marker in {file:?} with {column} `{text}`"),
                 set_a().add(file, marker(file).at(column, text)),
-                refused(5, file, line, column),
+                refused(5, file, after(file), column),
             ));
         }
         let good =
@@ -45,18 +46,18 @@ fn checked() -> Vec<Case> {
 fn near() -> Vec<Case> {
     let with_code = |code| set_a().add(R, marker(R).code(code));
     vec![
-        check("free text in a line of code `pm`", with_code("pm"), refused(5, R, 25, 18)),
-        check("free text in a line of code `P1`", with_code("P1"), refused(5, R, 25, 18)),
-        check("free text in a KL line", with_code("KL"), refused(5, R, 25, 18)),
+        check("free text in a line of code `pm`", with_code("pm"), refused(5, R, after(R), 18)),
+        check("free text in a line of code `P1`", with_code("P1"), refused(5, R, after(R), 18)),
+        check("free text in a KL line", with_code("KL"), refused(5, R, after(R), 18)),
         check(
             "two faults in a marker",
             set_a().add(R, marker(R).index("0").at(66, "      ")),
-            refused(5, R, 25, 26),
+            refused(5, R, after(R), 26),
         ),
         check(
             "PM in columns 27-28 of a relation line",
-            set_a().put(X, 22, 27, "PM"),
-            refused(13, X, 22, 14),
+            set_a().put(X, first(), 27, "PM"),
+            refused(13, X, first(), 14),
         ),
     ]
 }
@@ -92,14 +93,14 @@ fn no_points() -> Vec<Case> {
     let same_place = set_a().add(R, turned(receiver(101)));
     let same_shot = set_a().add(S, turned(shot(501)));
     let early = set_a().add(S, turned(shot(502)).day(1));
-    let low_before = set_a().insert(R, 23, turned(receiver(1)));
-    let high_before = set_a().insert(R, 23, turned(receiver(900)));
+    let low_before = set_a().insert(R, below(2), turned(receiver(1)));
+    let high_before = set_a().insert(R, below(2), turned(receiver(900)));
     vec![
-        check("a marker before the receivers", at(R, 22), as_a()),
-        check("a marker between the receivers", at(R, 23), as_a()),
-        check("a marker after the receivers", at(R, 25), as_a()),
-        check("a marker before the shot", at(S, 22), as_a()),
-        check("a marker after the shot", at(S, 23), as_a()),
+        check("a marker before the receivers", at(R, first()), as_a()),
+        check("a marker between the receivers", at(R, below(2)), as_a()),
+        check("a marker after the receivers", at(R, after(R)), as_a()),
+        check("a marker before the shot", at(S, first()), as_a()),
+        check("a marker after the shot", at(S, after(S)), as_a()),
         check("markers only", only, accepted(0, 0, 0, 0)),
         check("a marker of a low name at the end", low_name, as_a()),
         check("a marker of a receiver's place", same_place, as_a()),

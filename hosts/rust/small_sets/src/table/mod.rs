@@ -13,7 +13,7 @@ mod points;
 mod questions;
 mod records;
 mod relations;
-mod write;
+pub mod write;
 
 use crate::Case;
 

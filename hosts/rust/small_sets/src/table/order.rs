@@ -2,6 +2,7 @@
 
 use super::write::{accepted, as_a, check, refused};
 use crate::line::{marker, receiver, relation, shot, Line};
+use crate::place::{below, first};
 use crate::File::{R, S, X};
 use crate::{headers_only, set_a, Answer, Case, Set};
 
@@ -54,15 +55,15 @@ fn not_above() -> Vec<Case> {
         ("a repeated KL", vec![r(103).code("KL")]),
     ];
     let case = |(name, lines): (&str, Vec<Line>)| {
-        let last = 24 + lines.len() as u32;
+        let last = below(3 + lines.len());
         with_receivers(name, lines, refused(10, R, last, 2))
     };
-    let second = set_a().edit(R, 23, |r| r.point(101));
-    let first = set_a().edit(R, 22, |r| r.point(109));
+    let second = set_a().edit(R, below(2), |r| r.point(101));
+    let too_high = set_a().edit(R, first(), |r| r.point(109));
     let mut cases = rows.map(case).to_vec();
     cases.extend([
-        check("10: the second receiver as the first", second, refused(10, R, 23, 2)),
-        check("10: the first receiver too high", first, refused(10, R, 23, 2)),
+        check("10: the second receiver as the first", second, refused(10, R, below(2), 2)),
+        check("10: the first receiver too high", too_high, refused(10, R, below(2), 2)),
     ]);
     cases
 }
@@ -84,24 +85,24 @@ fn shots(lines: &[Line]) -> Set {
 /// 11: days, then times.
 fn times() -> Vec<Case> {
     let s = shot;
-    let late = |lines: &[Line], line| (shots(lines), refused(11, S, line, 72));
+    let late = |lines: &[Line], n| (shots(lines), refused(11, S, below(n), 72));
     let fine = |lines: &[Line]| (shots(lines), accepted(3, 2, 2, 6));
-    let r_days = set_a().edit(R, 24, |r| r.day(1).time("000000"));
+    let r_days = set_a().edit(R, below(3), |r| r.day(1).time("000000"));
     let rows = [
         ("equal times", fine(&[s(502)])),
         ("a later time", fine(&[s(502).time("071246")])),
         ("a later day at an earlier time", fine(&[s(502).day(114).time("000000")])),
         ("a marker of an early day between", fine(&[s(502).code("PM").day(1), s(503)])),
-        ("a second earlier", late(&[s(502).time("071244")], 23)),
-        ("a day earlier at a later time", late(&[s(502).day(112).time("235959")], 23)),
-        ("day 99 after day 113", late(&[s(502).day(99)], 23)),
-        ("a KL shot earlier", late(&[s(502).code("KL").time("071244")], 23)),
+        ("a second earlier", late(&[s(502).time("071244")], 2)),
+        ("a day earlier at a later time", late(&[s(502).day(112).time("235959")], 2)),
+        ("day 99 after day 113", late(&[s(502).day(99)], 2)),
+        ("a KL shot earlier", late(&[s(502).code("KL").time("071244")], 2)),
         (
             "earlier than the shot before alone",
-            late(&[s(502).time("080000"), s(503).time("075959")], 24),
+            late(&[s(502).time("080000"), s(503).time("075959")], 3),
         ),
-        ("earlier behind a marker", late(&[marker(S), s(502).time("071244")], 24)),
-        ("earlier than a KL shot", late(&[s(502).code("KL").day(114), s(503)], 24)),
+        ("earlier behind a marker", late(&[marker(S), s(502).time("071244")], 3)),
+        ("earlier than a KL shot", late(&[s(502).code("KL").day(114), s(503)], 3)),
         ("R's days and times in any order", (r_days, as_a())),
     ];
     rows.map(|(name, (set, expected))| check(format!("11: {name}"), set, expected)).to_vec()
@@ -110,16 +111,16 @@ fn times() -> Vec<Case> {
 /// 12: name, point and index, of any earlier shot.
 fn repeats() -> Vec<Case> {
     let s = shot;
-    let again = |lines: &[Line], line| (shots(lines), refused(12, S, line, 2));
+    let again = |lines: &[Line], n| (shots(lines), refused(12, S, below(n), 2));
     let rows = [
-        ("the shot again", again(&[s(501)], 23)),
-        ("the shot again on a later day", again(&[s(501).day(200)], 23)),
-        ("with leading zeros", again(&[s(501).at(18, "00000501")], 23)),
-        ("with a blank index", again(&[s(501).index(" ")], 23)),
-        ("as KL", again(&[s(501).code("KL")], 23)),
-        ("with another code", again(&[s(501).code("E9")], 23)),
-        ("two lines below", again(&[s(502), s(501)], 24)),
-        ("behind a marker", again(&[marker(S), s(501)], 24)),
+        ("the shot again", again(&[s(501)], 2)),
+        ("the shot again on a later day", again(&[s(501).day(200)], 2)),
+        ("with leading zeros", again(&[s(501).at(18, "00000501")], 2)),
+        ("with a blank index", again(&[s(501).index(" ")], 2)),
+        ("as KL", again(&[s(501).code("KL")], 2)),
+        ("with another code", again(&[s(501).code("E9")], 2)),
+        ("two lines below", again(&[s(502), s(501)], 3)),
+        ("behind a marker", again(&[marker(S), s(501)], 3)),
         ("with another index", (shots(&[s(501).index("2")]), accepted(3, 2, 2, 6))),
         ("with another name", (shots(&[s(501).name("L 1")]), accepted(3, 2, 2, 6))),
         ("with a lower case name", (shots(&[s(501).name("l1")]), accepted(3, 2, 2, 6))),
@@ -130,9 +131,10 @@ fn repeats() -> Vec<Case> {
 
 /// 13: the shot of a relation line.
 fn sources() -> Vec<Case> {
-    let none = |name: &str, set: Set| check(format!("13: {name}"), set, refused(13, X, 22, 14));
-    let x = |change: fn(Line) -> Line| set_a().edit(X, 22, change);
-    let s = |change: fn(Line) -> Line| set_a().edit(S, 22, change);
+    let none =
+        |name: &str, set: Set| check(format!("13: {name}"), set, refused(13, X, first(), 14));
+    let x = |change: fn(Line) -> Line| set_a().edit(X, first(), change);
+    let s = |change: fn(Line) -> Line| set_a().edit(S, first(), change);
     vec![
         none("another point", x(|x| x.source(502))),
         none("another index", x(|x| x.source_index("2"))),
@@ -143,14 +145,14 @@ fn sources() -> Vec<Case> {
         none("the shot's name one column longer", s(|s| s.name("L1             1"))),
         none("the shot is a marker", s(|s| s.code("PM"))),
         none("the shot has index 2", s(|s| s.index("2"))),
-        none("no shot at all", set_a().remove(S, 22)),
+        none("no shot at all", set_a().remove(S, first())),
         check("13: blank index in X", x(|x| x.source_index(" ")), as_a()),
         check("13: blank index in S", s(|s| s.index(" ")), as_a()),
         check("13: the shot is KL", s(|s| s.code("KL")), as_a()),
         check(
             "13: in the second relation line",
             set_a().add(X, relation().record(12).source(502)),
-            refused(13, X, 23, 14),
+            refused(13, X, below(2), 14),
         ),
     ]
 }
@@ -169,29 +171,29 @@ fn sequence() -> Vec<Case> {
     vec![
         case("the order of S", &[501, 503, 502], accepted(3, 3, 3, 9)),
         case("a shot twice", &[501, 503, 503, 502], accepted(3, 3, 4, 12)),
-        case("the order of points", &[501, 502, 503], refused(14, X, 24, 14)),
-        case("the first shot last", &[503, 502, 501], refused(14, X, 24, 14)),
-        case("the second line", &[503, 501, 502], refused(14, X, 23, 14)),
-        case("back to the first shot", &[501, 503, 501, 502], refused(14, X, 24, 14)),
+        case("the order of points", &[501, 502, 503], refused(14, X, below(3), 14)),
+        case("the first shot last", &[503, 502, 501], refused(14, X, below(3), 14)),
+        case("the second line", &[503, 501, 502], refused(14, X, below(2), 14)),
+        case("back to the first shot", &[501, 503, 501, 502], refused(14, X, below(3), 14)),
     ]
 }
 
 /// 15: shots without a relation line.
 fn unnamed() -> Vec<Case> {
-    let no_relation = set_a().remove(X, 22);
-    let first = set_a().insert(S, 22, shot(500));
+    let no_relation = set_a().remove(X, first());
+    let before = set_a().insert(S, first(), shot(500));
     let kl = set_a().add(S, shot(502).code("KL"));
     let two = set_a().add(S, shot(502)).add(S, shot(503));
     let other_index = set_a().add(S, shot(501).index("2"));
     let behind = set_a().add(S, marker(S)).add(S, shot(502));
     let no_shot = headers_only().add(R, receiver(101));
     vec![
-        check("15: no relation line", no_relation, refused(15, S, 22, 1)),
-        check("15: the first shot", first, refused(15, S, 22, 1)),
-        check("15: a KL shot", kl, refused(15, S, 23, 1)),
-        check("15: two shots", two, refused(15, S, 23, 1)),
-        check("15: the shot with another index", other_index, refused(15, S, 23, 1)),
-        check("15: behind a marker", behind, refused(15, S, 24, 1)),
+        check("15: no relation line", no_relation, refused(15, S, first(), 1)),
+        check("15: the first shot", before, refused(15, S, first(), 1)),
+        check("15: a KL shot", kl, refused(15, S, below(2), 1)),
+        check("15: two shots", two, refused(15, S, below(2), 1)),
+        check("15: the shot with another index", other_index, refused(15, S, below(2), 1)),
+        check("15: behind a marker", behind, refused(15, S, below(3), 1)),
         check("15: receivers alone", no_shot, accepted(1, 0, 0, 0)),
     ]
 }

@@ -1,6 +1,7 @@
 //! 5 in the point lines of R and S: every field, good and bad.
 
 use super::write::{accepted, as_a, check, refused, texts};
+use crate::place::{below, first};
 use crate::File::{self, R, S};
 use crate::{set_a, Case};
 
@@ -42,13 +43,13 @@ const CODES_OF_S: &str = "VEAWS";
 
 pub fn cases() -> Vec<Case> {
     let mut cases = Vec::new();
-    for (file, line) in [(R, 24), (S, 22)] {
-        let bad = |column| refused(5, file, line as u32, column);
+    for (file, line) in [(R, below(3)), (S, first())] {
+        let bad = |column| refused(5, file, line, column);
         cases.extend(texts(BAD, file, line, bad));
         cases.extend(texts(GOOD, file, line, |_| as_a()));
     }
-    codes(R, 24, CODES_OF_R, CODES_OF_S, &mut cases);
-    codes(S, 22, CODES_OF_S, CODES_OF_R, &mut cases);
+    codes(R, below(3), CODES_OF_R, CODES_OF_S, &mut cases);
+    codes(S, first(), CODES_OF_S, CODES_OF_R, &mut cases);
     cases.extend(days_and_points());
     cases
 }
@@ -74,7 +75,7 @@ fn codes(file: File, line: usize, own: &str, others: &str, cases: &mut Vec<Case>
         cases.push(check(
             format!("{file:?} code `{code}`"),
             with_code(&code),
-            refused(5, file, line as u32, 27),
+            refused(5, file, line, 27),
         ));
     }
 }
@@ -82,7 +83,7 @@ fn codes(file: File, line: usize, own: &str, others: &str, cases: &mut Vec<Case>
 /// Edges of day, time and point number, where R and S need not agree.
 fn days_and_points() -> Vec<Case> {
     let mut cases = Vec::new();
-    for (file, line) in [(R, 22), (S, 22)] {
+    for (file, line) in [(R, first()), (S, first())] {
         for day in ["999", "001", "  1", " 99"] {
             let name = format!("{file:?} day `{day}`");
             cases.push(check(name, set_a().put(file, line, 72, day), as_a()));
@@ -92,16 +93,13 @@ fn days_and_points() -> Vec<Case> {
             cases.push(check(name, set_a().put(file, line, 75, time), as_a()));
         }
     }
-    let zero =
-        set_a()
-            .put(R, 22, 18, "       0")
-            .put(S, 22, 18, "00000000")
-            .edit(File::X, 22, |x| x.source(0).channels(1, 1).receivers(0, 0));
-    let most =
-        set_a().put(R, 24, 18, "99999999").put(S, 22, 18, "99999999").edit(File::X, 22, |x| {
-            x.source(99_999_999).channels(7, 7).receivers(99_999_999, 99_999_999)
-        });
-    let padded = set_a().put(R, 23, 18, "00000102").put(S, 22, 18, "00000501");
+    let zero = set_a().put(R, first(), 18, "       0").put(S, first(), 18, "00000000");
+    let zero = zero.edit(File::X, first(), |x| x.source(0).channels(1, 1).receivers(0, 0));
+    let most = set_a().put(R, below(3), 18, "99999999").put(S, first(), 18, "99999999");
+    let most = most.edit(File::X, first(), |x| {
+        x.source(99_999_999).channels(7, 7).receivers(99_999_999, 99_999_999)
+    });
+    let padded = set_a().put(R, below(2), 18, "00000102").put(S, first(), 18, "00000501");
     cases.extend([
         check("point number 0", zero, accepted(3, 1, 1, 1)),
         check("point number 99999999", most, accepted(3, 1, 1, 1)),

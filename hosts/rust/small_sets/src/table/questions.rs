@@ -3,6 +3,7 @@
 use super::write::{
     ask, channel, channel_of, filled, placeless, refused, spread, spread_of, trace, trace_of,
 };
+use crate::place::{below, first};
 use crate::File::{R, X};
 use crate::{set_a, Answer, Case, Question};
 
@@ -18,7 +19,7 @@ fn out_of_range(name: String, question: Question) -> Case {
 fn all_three(tape: &[u8], record: u64) -> [(&'static str, Question); 3] {
     [
         ("trace", trace_of(tape, record, 2)),
-        ("channel", channel_of(tape, record, 23, 1)),
+        ("channel", channel_of(tape, record, below(2), 1)),
         ("spread", spread_of(tape, record, 3, 3)),
     ]
 }
@@ -67,12 +68,12 @@ fn numbers() -> Vec<Case> {
     for number in [0, 10_000, 65_538, (1 << 32) + 2, u64::MAX] {
         cases.push(out_of_range(format!("channel {number}"), trace(number)));
     }
-    for line in [0, 10_000, 65_559, (1 << 32) + 23, u64::MAX] {
+    for line in [0, 10_000, (1 << 16) + below(2), (1 << 32) + below(2), usize::MAX] {
         cases.push(out_of_range(format!("R line {line}"), channel(line, 1)));
     }
     for component in [0, 10, 257, 65_537, (1 << 32) + 1, u64::MAX] {
         let name = format!("component {component}");
-        cases.push(out_of_range(name, channel(23, component)));
+        cases.push(out_of_range(name, channel(below(2), component)));
     }
     cases
 }
@@ -87,8 +88,8 @@ fn edges() -> Vec<Case> {
         none("tape `~~~~~~`", trace_of("~~~~~~", 11, 2)),
         none("tape `1     `", trace_of("1     ", 11, 2)),
         none("R line 9999", channel(9999, 1)),
-        none("component 9", channel(23, 9)),
-        none("record 9999, way back", channel_of("100   ", 9999, 23, 1)),
+        none("component 9", channel(below(2), 9)),
+        none("record 9999, way back", channel_of("100   ", 9999, below(2), 1)),
     ]
 }
 
@@ -96,11 +97,11 @@ fn edges() -> Vec<Case> {
 fn before_the_set() -> Vec<Case> {
     let broken = || set_a().cut(R, 81);
     let empty = || set_a().each(|set, file| set.cut(file, 0));
-    let broken_x = || set_a().edit(X, 22, |x| x.receivers(101, 104));
+    let broken_x = || set_a().edit(X, first(), |x| x.receivers(101, 104));
     vec![
         ask("channel 0 of a broken set", broken(), trace(0), placeless(20)),
         ask("R line 0 of a broken set", broken(), channel(0, 1), placeless(20)),
-        ask("component 10 of a broken set", broken(), channel(23, 10), placeless(20)),
+        ask("component 10 of a broken set", broken(), channel(below(2), 10), placeless(20)),
         ask(
             "record 10000 of a broken set",
             broken(),
@@ -109,17 +110,17 @@ fn before_the_set() -> Vec<Case> {
         ),
         ask("a short tape of empty files", empty(), trace_of("100", 11, 2), placeless(20)),
         ask("a trace of a broken set", broken(), trace(2), refused(1, R, 1, 0)),
-        ask("a channel of a broken set", broken(), channel(23, 1), refused(1, R, 1, 0)),
+        ask("a channel of a broken set", broken(), channel(below(2), 1), refused(1, R, 1, 0)),
         ask("a spread of a broken set", broken(), spread(3, 3), refused(1, R, 1, 0)),
         ask("a trace of empty files", empty(), trace(2), refused(7, R, 1, 0)),
-        ask("a trace of an odd relation", broken_x(), trace(2), refused(6, X, 22, 72)),
+        ask("a trace of an odd relation", broken_x(), trace(2), refused(6, X, first(), 72)),
         ask(
             "an absent record of an odd relation",
             broken_x(),
             trace_of("100   ", 12, 2),
-            refused(6, X, 22, 72),
+            refused(6, X, first(), 72),
         ),
-        ask("R line 1 of an odd relation", broken_x(), channel(1, 1), refused(6, X, 22, 72)),
+        ask("R line 1 of an odd relation", broken_x(), channel(1, 1), refused(6, X, first(), 72)),
     ]
 }
 
@@ -134,7 +135,7 @@ fn slices() -> Vec<Case> {
             placeless(21),
         ));
     }
-    let far = || set_a().edit(X, 22, |x| x.channels(9997, 9999));
+    let far = || set_a().edit(X, first(), |x| x.channels(9997, 9999));
     let short_and_record = spread_of("100   ", 10_000, 0, 0);
     let absent = spread_of("100   ", 12, 0, 0);
     cases.extend([

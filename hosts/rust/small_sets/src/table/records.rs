@@ -2,6 +2,7 @@
 
 use super::write::{accepted, check, refused};
 use crate::line::{receiver, relation, shot, Line};
+use crate::place::{below, first};
 use crate::File::{R, S, X};
 use crate::{set_a, Case, Set};
 
@@ -31,8 +32,8 @@ pub fn with(lines: &[Line]) -> Set {
 
 /// 16, the first way: a record that comes back.
 fn apart() -> Vec<Case> {
-    let back = |name: &str, lines: &[Line], line| {
-        check(format!("16: {name}"), with(lines), refused(16, X, line, 2))
+    let back = |name: &str, lines: &[Line], n| {
+        check(format!("16: {name}"), with(lines), refused(16, X, below(n), 2))
     };
     let fine = |name: &str, lines: &[Line], traces| {
         let relations = 1 + lines.len() as u64;
@@ -41,16 +42,16 @@ fn apart() -> Vec<Case> {
     let record_12 = relation().record(12);
     let tape_101 = relation().tape("101");
     vec![
-        back("record 11 behind record 12", &[record_12, second()], 24),
-        back("record 0011 behind record 12", &[record_12, second().at(8, "0011")], 24),
-        back("record 11 two records below", &[record_12, relation().record(13), second()], 25),
+        back("record 11 behind record 12", &[record_12, second()], 3),
+        back("record 0011 behind record 12", &[record_12, second().at(8, "0011")], 3),
+        back("record 11 two records below", &[record_12, relation().record(13), second()], 4),
         back(
             "record 12 behind record 13",
             &[record_12, relation().record(13), second().record(12)],
-            25,
+            4,
         ),
-        back("tape 100 behind tape 101", &[tape_101, second()], 24),
-        back("two lines, another record, a third", &[second(), record_12, third()], 25),
+        back("tape 100 behind tape 101", &[tape_101, second()], 3),
+        back("two lines, another record, a third", &[second(), record_12, third()], 4),
         fine("three lines of a record", &[second(), third()], 9),
         fine("record 0011 after record 11", &[second().at(8, "0011")], 6),
         fine("records falling", &[relation().record(10), relation().record(9)], 9),
@@ -65,22 +66,22 @@ fn apart() -> Vec<Case> {
 /// 16, the second way: neighbouring lines of a record that differ.
 fn differing() -> Vec<Case> {
     let case = |name: &str, set: Set, expected| check(format!("16: {name}"), set, expected);
-    let no = |line| refused(16, X, line, 2);
+    let no = |n| refused(16, X, below(n), 2);
     let beside = |place: Line, line: Line| with(&[line]).add(S, place);
     let point = beside(shot(502), second().source(502));
     let index = beside(shot(501).index("2"), second().source_index("2"));
     let name = beside(shot(501).name("L2"), second().source_name("L2"));
     let in_order = with(&[second().instrument("2"), third().instrument("2")]);
     let all = |x: Line| x.record_increment("3").instrument("4");
-    let all_alike = with(&[all(second())]).edit(X, 22, all);
+    let all_alike = with(&[all(second())]).edit(X, first(), all);
     vec![
-        case("another source point", point, no(23)),
-        case("another source index", index, no(23)),
-        case("another source name", name, no(23)),
-        case("another record increment", with(&[second().record_increment("2")]), no(23)),
-        case("another instrument", with(&[second().instrument("2")]), no(23)),
-        case("in the third line", with(&[second(), third().instrument("9")]), no(24)),
-        case("the second line with the third", in_order, no(23)),
+        case("another source point", point, no(2)),
+        case("another source index", index, no(2)),
+        case("another source name", name, no(2)),
+        case("another record increment", with(&[second().record_increment("2")]), no(2)),
+        case("another instrument", with(&[second().instrument("2")]), no(2)),
+        case("in the third line", with(&[second(), third().instrument("9")]), no(3)),
+        case("the second line with the third", in_order, no(2)),
         case("all alike", all_alike, accepted(9, 1, 2, 6)),
         case(
             "blank and 1",
@@ -95,7 +96,7 @@ fn differing() -> Vec<Case> {
         ),
         case(
             "a record within the increment of another",
-            with(&[second().record(12)]).edit(X, 22, |x| x.record_increment("2")),
+            with(&[second().record(12)]).edit(X, first(), |x| x.record_increment("2")),
             accepted(9, 1, 2, 6),
         ),
     ]
@@ -105,17 +106,17 @@ fn differing() -> Vec<Case> {
 fn channels() -> Vec<Case> {
     let case =
         |name: &str, lines: &[Line], expected| check(format!("17: {name}"), with(lines), expected);
-    let no = |line| refused(17, X, line, 39);
+    let no = |n| refused(17, X, below(n), 39);
     let fine = |relations| accepted(9, 1, relations, 3 * relations);
     vec![
-        case("F is its T", &[second().channels(3, 5)], no(23)),
-        case("F is its F", &[second().channels(1, 3)], no(23)),
-        case("F is 0003", &[second().channels(3, 5).at(39, "0003")], no(23)),
-        case("the third line", &[second(), third().channels(6, 8)], no(24)),
+        case("F is its T", &[second().channels(3, 5)], no(2)),
+        case("F is its F", &[second().channels(1, 3)], no(2)),
+        case("F is 0003", &[second().channels(3, 5).at(39, "0003")], no(2)),
+        case("the third line", &[second(), third().channels(6, 8)], no(3)),
         case(
             "the third line, above the first",
             &[second().channels(7, 9), third().channels(4, 6)],
-            no(24),
+            no(3),
         ),
         case("F just above", &[second()], fine(2)),
         case("a gap", &[second().channels(100, 102)], fine(2)),

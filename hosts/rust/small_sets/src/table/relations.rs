@@ -2,6 +2,7 @@
 
 use super::write::{accepted, as_a, check, refused, texts};
 use crate::line::{receiver, relation, Line};
+use crate::place::{below, first};
 use crate::File::{R, X};
 use crate::{set_a, Case, Set};
 
@@ -45,9 +46,9 @@ const GOOD: &[(usize, &str)] = &[
 ];
 
 pub fn cases() -> Vec<Case> {
-    let bad = |column| refused(5, X, 22, column);
-    let mut cases = texts(BAD, X, 22, bad);
-    cases.extend(texts(GOOD, X, 22, |_| as_a()));
+    let bad = |column| refused(5, X, first(), column);
+    let mut cases = texts(BAD, X, first(), bad);
+    cases.extend(texts(GOOD, X, first(), |_| as_a()));
     cases.extend(disagreements());
     cases.extend(agreements());
     cases.extend(later_lines());
@@ -56,12 +57,12 @@ pub fn cases() -> Vec<Case> {
 
 /// Set A with its relation line changed.
 fn with(change: impl Fn(Line) -> Line) -> Set {
-    set_a().edit(X, 22, change)
+    set_a().edit(X, first(), change)
 }
 
 /// Each of 6's four places, and which is tried first.
 fn disagreements() -> Vec<Case> {
-    let case = |name: &str, set: Set, column| check(name, set, refused(6, X, 22, column));
+    let case = |name: &str, set: Set, column| check(name, set, refused(6, X, first(), column));
     vec![
         case("channels 2-1", with(|x| x.channels(2, 1)), 39),
         case("channels 9999-1", with(|x| x.channels(9999, 1)), 39),
@@ -92,14 +93,14 @@ fn agreements() -> Vec<Case> {
     let most = with(|x| x.channels(1, 9999).increment("9").receivers(1, 1111));
     let wide = with(|x| x.channels(1, 9999).receivers(1, 9999));
     let many = set_a().add_all(R, (104..=1211).map(receiver));
-    let many = many.edit(X, 22, |x| x.channels(1, 9999).increment("9").receivers(101, 1211));
+    let many = many.edit(X, first(), |x| x.channels(1, 9999).increment("9").receivers(101, 1211));
     vec![
         check("one channel", one, accepted(3, 1, 1, 1)),
         check("nine components of one receiver", nine, accepted(3, 1, 1, 9)),
         check("nine components of three receivers", all, accepted(3, 1, 1, 27)),
         check("channels 1-9999 of 1111 receivers", many, accepted(1_111, 1, 1, 9_999)),
-        check("channels 1-9999 of missing receivers", most, refused(18, X, 22, 64)),
-        check("9999 receivers of which three stand", wide, refused(18, X, 22, 64)),
+        check("channels 1-9999 of missing receivers", most, refused(18, X, first(), 64)),
+        check("9999 receivers of which three stand", wide, refused(18, X, first(), 64)),
     ]
 }
 
@@ -111,13 +112,13 @@ fn later_lines() -> Vec<Case> {
         check(
             "5 in the second relation line",
             second(relation().at(80, "0")),
-            refused(5, X, 23, 80),
+            refused(5, X, below(2), 80),
         ),
         check(
             "6 in the second relation line",
             second(relation().increment("2")),
-            refused(6, X, 23, 47),
+            refused(6, X, below(2), 47),
         ),
-        check("6 in the third relation line", third, refused(6, X, 24, 72)),
+        check("6 in the third relation line", third, refused(6, X, below(3), 72)),
     ]
 }

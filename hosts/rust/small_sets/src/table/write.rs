@@ -38,12 +38,12 @@ pub fn trace_of(tape: impl AsRef<[u8]>, record: u64, channel: u64) -> Question {
 }
 
 /// Tape `100`, record 11.
-pub fn channel(r_line: u64, component: u64) -> Question {
+pub fn channel(r_line: usize, component: u64) -> Question {
     channel_of("100   ", 11, r_line, component)
 }
 
-pub fn channel_of(tape: impl AsRef<[u8]>, record: u64, r_line: u64, component: u64) -> Question {
-    Question::Channel { tape: tape.as_ref().to_vec(), record, r_line, component }
+pub fn channel_of(tape: impl AsRef<[u8]>, record: u64, r_line: usize, component: u64) -> Question {
+    Question::Channel { tape: tape.as_ref().to_vec(), record, r_line: r_line as u64, component }
 }
 
 /// Tape `100`, record 11.
@@ -69,8 +69,8 @@ pub fn as_a() -> Answer {
     accepted(3, 1, 1, 3)
 }
 
-pub fn refused(number: u8, file: File, line: u32, column: usize) -> Answer {
-    Answer::Refused { number, file: file as u8, line, column: column as u8 }
+pub fn refused(number: u8, file: File, line: usize, column: usize) -> Answer {
+    Answer::Refused { number, file: file as u8, line: line as u32, column: column as u8 }
 }
 
 /// 20 or 21, which have no place.
@@ -78,19 +78,19 @@ pub fn placeless(number: u8) -> Answer {
     Answer::Refused { number, file: 0, line: 0, column: 0 }
 }
 
-pub fn comes_from(r_line: u16, component: u8) -> Answer {
-    Answer::Trace { r_line, component }
+pub fn comes_from(r_line: usize, component: u8) -> Answer {
+    Answer::Trace { r_line: r_line as u16, component }
 }
 
 /// The highest channel, and what each place of slices of these lengths holds
 /// from the first on; the places behind stay.
 pub fn filled(
     highest: u16,
-    places: &[(u16, u8)],
+    places: &[(usize, u8)],
     lines_len: usize,
     components_len: usize,
 ) -> Answer {
-    let mut lines: Vec<u16> = places.iter().map(|place| place.0).collect();
+    let mut lines: Vec<u16> = places.iter().map(|place| place.0 as u16).collect();
     let mut components: Vec<u8> = places.iter().map(|place| place.1).collect();
     lines.resize(lines_len, u16::from_ne_bytes([STAYS; 2]));
     components.resize(components_len, STAYS);

@@ -3,9 +3,10 @@
 use crate::compare::compare;
 use crate::tally::Kind::{Found, OfTheSet};
 use crate::tally::Tally;
-use many_sets::large::{survey, two_million_traces, HOSTILE};
+use many_sets::large::{most, survey, two_million_traces, HOSTILE};
 use many_sets::questions::{channel, spread, trace, Ask};
 use many_sets::run::{random, turns};
+use small_sets::place::{below, first};
 use small_sets::Question;
 
 const KINDS: [Ask; 3] = [trace, channel, spread];
@@ -34,20 +35,27 @@ fn full_sets() {
 fn ends_of_full_files() {
     let set = two_million_traces();
     let tape = || b"100   ".to_vec();
+    let last = u64::from(most()) - 1;
+    let (first, line) = (first() as u64, |n| below(n) as u64);
     for (record, channel, answer) in [
-        (0, 1, 22 * 16 + 1),
-        (0, 200, 221 * 16 + 1),
+        (0, 1, first * 16 + 1),
+        (0, 200, line(200) * 16 + 1),
         (0, 201, 0),
-        (9_977, 1, 9_800 * 16 + 1),
-        (9_977, 200, 9_999 * 16 + 1),
-        (9_978, 1, 0),
+        (last, 1, 9_800 * 16 + 1),
+        (last, 200, 9_999 * 16 + 1),
+        (last + 1, 1, 0),
     ] {
         let question = Question::Trace { tape: tape(), record, channel };
         assert_eq!(compare(&set, &question).host_number(), answer);
     }
-    for (record, r_line, answer) in
-        [(0, 21, 0), (0, 22, 1), (0, 221, 200), (0, 222, 0), (9_977, 9_800, 1), (9_977, 9_999, 200)]
-    {
+    for (record, r_line, answer) in [
+        (0, first - 1, 0),
+        (0, first, 1),
+        (0, line(200), 200),
+        (0, line(201), 0),
+        (last, 9_800, 1),
+        (last, 9_999, 200),
+    ] {
         let question = Question::Channel { tape: tape(), record, r_line, component: 1 };
         assert_eq!(compare(&set, &question).host_number(), answer);
     }

@@ -2,20 +2,20 @@
 
 use crate::answers::refused;
 use crate::compare::{compare, compare_calls};
-use many_sets::large::{seeded, two_million_traces, HOSTILE};
+use many_sets::large::{most, seeded, two_million_traces, HOSTILE};
 use many_sets::run::random;
-use small_sets::{headers_only, receiver, relation, shot, File, Set};
+use small_sets::place::{below, first};
+use small_sets::{headers_only, receiver, relation, shot, File, Line, Set};
 use sps::Accepted;
 use std::collections::BTreeSet;
-
-const COUNTS: Accepted =
-    Accepted { receivers: 9_978, shots: 9_978, relations: 9_978, traces: 1_995_600 };
 
 /// 9,999 lines are not too many, 10,000 are; a byte more or less is named first.
 #[test]
 fn most_lines() {
     let full = two_million_traces();
-    assert_eq!(compare_calls(&full, "9,999 lines"), Ok(COUNTS));
+    let most = u64::from(most());
+    let counts = Accepted { receivers: most, shots: most, relations: most, traces: 200 * most };
+    assert_eq!(compare_calls(&full, "9,999 lines"), Ok(counts));
     for file in File::ALL {
         let refused = |number, line| refused(number, file, line, 0);
         let last = full.line(file, 9_999);
@@ -35,40 +35,45 @@ fn last_lines() {
     let hold = |set: Set, number, file: File, column| {
         assert_eq!(compare(&set, "the last line"), refused(number, file, 9_999, column));
     };
-    let last = |file, column, text| full.clone().put(file, 9_999, column, text);
+    let last = |file, change: &dyn Fn(Line) -> Line| full.clone().edit(file, 9_999, change);
     for file in File::ALL {
         hold(full.clone().byte(file, 9_999, 82, b' '), 3, file, 82);
-        hold(last(file, 1, "H"), 4, file, 1);
+        hold(last(file, &|line| line.at(1, "H")), 4, file, 1);
     }
-    hold(last(File::X, 72, "99999999"), 6, File::X, 72);
-    hold(last(File::R, 18, "    9976"), 10, File::R, 2);
-    hold(last(File::S, 72, "112"), 11, File::S, 72);
-    hold(last(File::S, 18, "       0"), 12, File::S, 2);
-    hold(last(File::X, 30, "    9978"), 13, File::X, 14);
-    hold(last(File::X, 30, "    9975"), 14, File::X, 14);
-    hold(last(File::X, 30, "    9976"), 15, File::S, 1);
-    hold(last(File::X, 8, "   0"), 16, File::X, 2);
-    hold(last(File::X, 64, "    9779    9978"), 18, File::X, 64);
-    let record = full.clone().put(File::X, 9_999, 8, "9976").put(File::X, 9_999, 30, "    9976");
-    hold(record.clone(), 17, File::X, 39);
-    hold(record.put(File::X, 9_999, 39, " 201 400"), 19, File::X, 64);
+    // The points of the last line, of the line before it and of one more before.
+    let [point, before, far] = [1, 2, 3].map(|n| most() - n);
+    hold(last(File::X, &|x| x.at(72, "99999999")), 6, File::X, 72);
+    hold(last(File::R, &|r| r.point(before)), 10, File::R, 2);
+    hold(last(File::S, &|s| s.day(112)), 11, File::S, 72);
+    hold(last(File::S, &|s| s.point(0)), 12, File::S, 2);
+    hold(last(File::X, &|x| x.source(point + 1)), 13, File::X, 14);
+    hold(last(File::X, &|x| x.source(far)), 14, File::X, 14);
+    hold(last(File::X, &|x| x.source(before)), 15, File::S, 1);
+    hold(last(File::X, &|x| x.record(0)), 16, File::X, 2);
+    hold(last(File::X, &|x| x.receivers(point - 198, point + 1)), 18, File::X, 64);
+    let record = |x: Line| x.record(before).source(before);
+    hold(last(File::X, &record), 17, File::X, 39);
+    hold(last(File::X, &|x| record(x).channels(201, 400)), 19, File::X, 64);
 }
 
 /// One line covers all receivers: any that lacks, and any that is covered again.
 #[test]
 fn one_wide_line() {
+    let most = most();
     let wide = headers_only()
-        .add_all(File::R, (1..=9_978).map(receiver))
+        .add_all(File::R, (1..=most).map(receiver))
         .add(File::S, shot(501))
-        .add(File::X, relation().channels(1, 9_978).receivers(1, 9_978));
-    let refused = |number, line| refused(number, File::X, line, 64);
-    let counts = Accepted { receivers: 9_978, shots: 1, relations: 1, traces: 9_978 };
+        .add(File::X, relation().channels(1, most).receivers(1, most));
+    let refused = |number, line| refused(number, File::X, line as u64, 64);
+    let (receivers, traces) = (most.into(), most.into());
+    let counts = Accepted { receivers, shots: 1, relations: 1, traces };
     assert_eq!(compare_calls(&wide, "one line"), Ok(counts));
-    for n in [1, 2, 255, 256, 257, 512, 4_096, 8_192, 9_977, 9_978] {
-        let without = wide.clone().remove(File::R, n as usize + 21);
-        assert_eq!(compare_calls(&without, &format!("without {n}")), refused(18, 22));
-        let again = wide.clone().add(File::X, relation().channels(9_979, 9_979).receivers(n, n));
-        assert_eq!(compare_calls(&again, &format!("{n} again")), refused(19, 23));
+    for n in [1, 2, 255, 256, 257, 512, 4_096, 8_192, most - 1, most] {
+        let without = wide.clone().remove(File::R, below(n as usize));
+        assert_eq!(compare_calls(&without, &format!("without {n}")), refused(18, first()));
+        let again =
+            wide.clone().add(File::X, relation().channels(most + 1, most + 1).receivers(n, n));
+        assert_eq!(compare_calls(&again, &format!("{n} again")), refused(19, below(2)));
     }
 }
 

@@ -1,14 +1,16 @@
 //! Files at the limits and far beyond them.
 
 use crate::{folder, of, said, spswhy, write, NAMES};
-use many_sets::large::two_million_traces;
+use many_sets::large::{most, two_million_traces};
 use small_sets::{set_a, File};
 use std::fs::OpenOptions;
 
 #[test]
 fn full_files() {
     let (status, verdict, _) = of("full_files", &two_million_traces());
-    assert_eq!((status, verdict.as_str()), (Some(0), "ACCEPTED 9978 9978 9978 1995600\n"));
+    let (most, traces) = (most(), 200 * most());
+    let expected = format!("ACCEPTED {most} {most} {most} {traces}\n");
+    assert_eq!((status, verdict), (Some(0), expected));
 }
 
 /// A file is longer than what is read of it, and its whole length counts: 1 where it is

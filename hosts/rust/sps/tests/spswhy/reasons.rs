@@ -1,6 +1,7 @@
 //! Verdicts and reasons.
 
 use crate::{folder, of, said, spswhy, write, NAMES};
+use small_sets::place::{below, first};
 use small_sets::{set_a, table, Answer, File, Question};
 use sps::Number;
 use std::collections::BTreeSet;
@@ -14,29 +15,29 @@ fn accepted() {
 /// The place, the reason, the field with its rule, the line and the mark.
 #[test]
 fn a_field() {
-    let (status, verdict, reason) = of("a_field", &set_a().put(File::X, 22, 14, " L1"));
-    assert_eq!((status, verdict.as_str()), (Some(1), "REFUSED 5 X 22 14\n"));
+    let (status, verdict, reason) = of("a_field", &set_a().put(File::X, first(), 14, " L1"));
+    assert_eq!((status, verdict), (Some(1), format!("REFUSED 5 X {} 14\n", first())));
+    let place = format!("set.x01, line {}, column 14\n", first());
     let expected = "\
-set.x01, line 22, column 14
 refused with 5: a field breaks its rule
 columns 14 to 29 are the source line name: its first column is not blank
 X100     1111 L1                  5011   1   31L1                   101     1031
              ^
 ";
-    assert_eq!(reason, expected);
+    assert_eq!(reason, place + expected);
 }
 
 /// A mark below CR and LF, and bytes that are no characters.
 #[test]
 fn strange_bytes() {
-    let set = set_a().byte(File::R, 23, 82, b'\r').byte(File::S, 22, 3, 0xC3);
+    let set = set_a().byte(File::R, below(2), 82, b'\r').byte(File::S, first(), 3, 0xC3);
     let (_, verdict, reason) = of("strange_bytes", &set);
-    assert_eq!(verdict, "REFUSED 3 R 23 82\n");
+    assert_eq!(verdict, format!("REFUSED 3 R {} 82\n", below(2)));
     let [line, mark] = last_two(&reason);
     assert_eq!((line.len(), &line[78..]), (82, "45??"));
     assert_eq!(mark, format!("{:>82}", '^'));
-    let (_, verdict, reason) = of("strange_bytes", &set.byte(File::R, 23, 82, b'\n'));
-    assert_eq!(verdict, "REFUSED 3 S 22 3\n");
+    let (_, verdict, reason) = of("strange_bytes", &set.byte(File::R, below(2), 82, b'\n'));
+    assert_eq!(verdict, format!("REFUSED 3 S {} 3\n", first()));
     assert_eq!(last_two(&reason).map(|line| &line[..3]), ["SL?", "  ^"]);
 }
 

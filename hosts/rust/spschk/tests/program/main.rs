@@ -6,6 +6,7 @@ mod made;
 mod run;
 
 use run::Folder;
+use small_sets::place::last_header;
 use small_sets::File::{R, S, X};
 use small_sets::{folders, marker, receiver, relation, set_a, File, Set};
 use std::io::Write;
@@ -86,7 +87,8 @@ fn files_of_799_lines_are_accepted() {
         .add_all(S, vec![marker(S); more(S)])
         .add_all(X, (12..).map(|number| relation().record(number)).take(more(X)));
     assert_eq!(File::ALL.map(|file| long.file(file).len()), [65_518; 3]);
-    assert_eq!(spschk::line(&long), "ACCEPTED 778 1 778 2334\n");
+    let own = LINES - last_header();
+    assert_eq!(spschk::line(&long), format!("ACCEPTED {own} 1 {own} {}\n", 3 * own));
     assert_eq!(Folder::of("long", &long).says(), spschk::line(&long));
     for file in File::ALL {
         let odd = long.clone().put(file, LINES, 1, "Q");
