@@ -1,7 +1,7 @@
 //! How long the proved set check takes beside the naive reader: on surveys of 100,
 //! 1,000 and 9,999 lines a file, made by `many_sets` from a fixed seed, then on large
-//! sets and on those made to take long. Both give the same answer at each turn. The
-//! tables are Markdown.
+//! sets and on those made to take long. Both give the same answer at each turn. How the
+//! times grow, and whether they keep the limits, comes last. The tables are Markdown.
 //!
 //! `cargo bench -p sps --bench check -- WORDS` runs the sets that have the words in
 //! their names.
@@ -11,48 +11,37 @@
 mod answers;
 
 use answers::{naive, proved, Answer};
-use many_sets::large::{seeded, survey, two_million_traces, Large, HOSTILE, WIDEST};
-use small_sets::{Random, Set};
+use many_sets::large::{measured, COMMON, FULL, SEEDED};
+use small_sets::Set;
+use std::collections::BTreeMap;
 use std::env;
 use std::time::{Duration, Instant};
-
-const SEED: u64 = 0x5eed;
-
-/// Lines a file.
-const SIZES: [usize; 3] = [100, 1_000, 9_999];
-
-/// The sets that are no more than large.
-const COMMON: [Large; 2] = [
-    ("9,954 receivers, 1,995 shots, 9,975 lines", survey),
-    ("9,978 receivers, shots and lines", two_million_traces),
-];
 
 /// A reader runs at least twice, then on until it has had this time.
 const ENOUGH: Duration = Duration::from_millis(500);
 
+/// Each reader at its best, in milliseconds.
+#[derive(Clone, Copy)]
+struct Times {
+    naive: f64,
+    proved: f64,
+}
+
 fn main() {
     let words: Vec<String> = env::args().skip(1).filter(|word| !word.starts_with('-')).collect();
-    let chosen = |name: &str| words.iter().all(|word| name.contains(word));
     println!("| set | answer | naive ms | proved ms | MB/s | ratio |");
     println!("|---|---|--:|--:|--:|--:|");
-    let mut times = Vec::new();
-    for lines in SIZES {
-        let name = format!("{lines} lines a file");
-        if chosen(&name) {
-            let set = seeded(&mut Random::new(SEED), lines);
-            times.push((lines, run(&name, &set)));
-        }
-    }
-    for (name, make) in COMMON.into_iter().chain(HOSTILE).chain(WIDEST) {
-        if chosen(name) {
-            run(name, &make());
+    let mut times = BTreeMap::new();
+    for (name, make) in measured() {
+        if words.iter().all(|word| name.contains(word)) {
+            times.insert(name, run(name, &make(FULL)));
         }
     }
     growth(&times);
+    limits(&times);
 }
 
-/// Each reader at its best, in milliseconds: the naive one, then the proved one.
-fn run(name: &str, set: &Set) -> [f64; 2] {
+fn run(name: &str, set: &Set) -> Times {
     let expected = naive(set);
     let [naive, proved] = [naive, proved].map(|reader| best(name, set, reader, expected));
     let bytes = (set.r.len() + set.s.len() + set.x.len()) as f64;
@@ -60,7 +49,7 @@ fn run(name: &str, set: &Set) -> [f64; 2] {
     let speed = bytes / 1e3 / proved;
     let ratio = proved / naive;
     println!("| {name} | {shown} | {naive:.2} | {proved:.2} | {speed:.1} | {ratio:.2} |");
-    [naive, proved]
+    Times { naive, proved }
 }
 
 /// The shortest turn of a reader; each turn gives the answer.
@@ -79,14 +68,40 @@ fn best(name: &str, set: &Set, reader: fn(&Set) -> Answer, expected: Answer) -> 
 }
 
 /// How the times grow with the lines.
-fn growth(times: &[(usize, [f64; 2])]) {
+fn growth(times: &BTreeMap<&str, Times>) {
     println!();
-    println!("| lines a file | times the lines | naive times | proved times |");
-    println!("|---|--:|--:|--:|");
-    for pair in times.windows(2) {
-        let [(few, before), (many, after)] = pair else { continue };
-        let lines = *many as f64 / *few as f64;
-        let [naive, proved] = [0, 1].map(|reader| after[reader] / before[reader]);
-        println!("| {few} to {many} | {lines:.1} | {naive:.1} | {proved:.1} |");
+    println!("| from | to | naive times | proved times |");
+    println!("|---|---|--:|--:|");
+    for pair in SEEDED.windows(2) {
+        let (few, many) = (pair[0].0, pair[1].0);
+        if let (Some(before), Some(after)) = (times.get(few), times.get(many)) {
+            let (naive, proved) = (after.naive / before.naive, after.proved / before.proved);
+            println!("| {few} | {many} | {naive:.1} | {proved:.1} |");
+        }
+    }
+}
+
+/// What the proved check is held to. Times differ from run to run, so that nothing ends
+/// here where a limit is not met.
+fn limits(times: &BTreeMap<&str, Times>) {
+    let [_, (few, _), (many, _)] = SEEDED;
+    let [(survey, _), _] = COMMON;
+    let ms = |name: &str| times.get(name).map(|times| times.proved);
+    let ratio = |name: &str| times.get(name).map(|times| times.proved / times.naive);
+    let growth = ms(few).zip(ms(many)).map(|(few, many)| many / few);
+    println!();
+    println!("| limit | most | found | |");
+    println!("|---|--:|--:|---|");
+    for (name, most, found) in [
+        (format!("{survey}: ms"), 5.0, ms(survey)),
+        (format!("{survey}: ratio"), 0.04, ratio(survey)),
+        (format!("{many}: ms"), 8.0, ms(many)),
+        (format!("{many}: ratio"), 0.5, ratio(many)),
+        (format!("{few} to {many}: times"), 14.0, growth),
+    ] {
+        if let Some(found) = found {
+            let met = if found <= most { "met" } else { "not met" };
+            println!("| {name} | {most} | {found:.3} | {met} |");
+        }
     }
 }

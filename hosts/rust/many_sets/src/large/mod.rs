@@ -5,42 +5,99 @@ mod receivers;
 mod records;
 mod seeded;
 mod shots;
+mod shuffled;
 
 pub use seeded::seeded;
-use small_sets::place::most_below;
-use small_sets::{headers_only, receiver, relation, shot, File, Line, Set};
+use small_sets::place::last_header;
+use small_sets::{headers_only, receiver, relation, shot, File, Line, Random, Set};
 
-/// A name, and what makes the set.
-pub type Large = (&'static str, fn() -> Set);
+/// A name, and what makes the set; some sets are made of so many lines a file at most.
+pub type Large = (&'static str, fn(usize) -> Set);
 
-/// Sets that are made to take long, accepted or refused as late as can be.
-pub const HOSTILE: [Large; 14] = [
-    ("one record, a line for each receiver, backwards", records::one),
-    ("the same, the last line covers the first receiver", records::covered_again),
+/// The most lines that a file may have.
+pub const FULL: usize = 9_999;
+
+/// Of what is made by chance here.
+const SEED: u64 = 0x5eed;
+
+/// Surveys by the lines that each file has.
+pub const SEEDED: [Large; 3] = [
+    ("100 lines a file", |_| seeded(&mut Random::new(SEED), 100)),
+    ("1,000 lines a file", |_| seeded(&mut Random::new(SEED), 1_000)),
+    ("9,999 lines a file", |_| seeded(&mut Random::new(SEED), FULL)),
+];
+
+/// Sets that are no more than large.
+pub const COMMON: [Large; 2] = [
+    ("9,954 receivers, 1,995 shots, 9,975 lines", |_| survey()),
+    ("9,978 receivers, shots and lines", |_| two_million_traces()),
+];
+
+/// Sets that are made to take long, of any number of lines, accepted or refused as late
+/// as can be.
+pub const HOSTILE: [Large; 30] = [
+    ("one record backwards", records::one_backwards),
+    ("one record backwards, the last line covers the first receiver", |lines| {
+        records::covered_again(records::one_backwards(lines), own(lines))
+    }),
+    ("one record shuffled", records::one_shuffled),
+    ("one record shuffled, the last line covers the first receiver", |lines| {
+        records::covered_again(records::one_shuffled(lines), own(lines))
+    }),
+    ("records of 9 lines", |lines| records::of(lines, 9)),
+    ("records of 9 lines, the last covers the first receivers", |lines| {
+        records::covered_again(records::of(lines, 9), 9)
+    }),
+    ("records of 128 lines", |lines| records::of(lines, 128)),
+    ("records of 128 lines, the last covers the first receivers", |lines| {
+        records::covered_again(records::of(lines, 128), 128)
+    }),
+    ("records of 129 lines", |lines| records::of(lines, 129)),
+    ("records of 129 lines, the last covers the first receivers", |lines| {
+        records::covered_again(records::of(lines, 129), 129)
+    }),
     ("a record for each line, tapes alike", records::many),
-    ("the same, the last record is the first", records::again),
+    ("a record for each line, the last is the first", records::many_again),
     ("nine indices, one of them covered", receivers::nine_indices),
+    ("nine indices in turn", receivers::indices_in_turn),
+    ("nine indices in turn, the last receiver lacks", receivers::index_lacks),
     ("markers before the one receiver and the one shot", receivers::markers),
     ("names alike but in their last column", receivers::names_alike),
-    ("the same, the last line names another", receivers::other_name),
+    ("names alike, the last line names another", receivers::other_name),
+    ("a name for each receiver", shuffled::names),
+    ("a name for each receiver, the last lacks", shuffled::name_lacks),
+    ("all shuffled", shuffled::all),
+    ("all shuffled, the last shot is the first", shuffled::shot_again),
+    ("all shuffled, the last record is the first", shuffled::record_again),
+    ("all shuffled, the last receiver lacks", shuffled::receiver_lacks),
     ("shots backwards", shots::backwards),
-    ("the same, the last shot is the first", shots::again),
-    ("the same, the last shot is not named", shots::not_named),
-    ("the same, the last line names no shot", shots::no_shot),
+    ("shots backwards, the last is the first", shots::again),
+    ("shots backwards, the last is not named", shots::not_named),
+    ("shots backwards, the last line names none", shots::no_shot),
     ("header lines alone", headers::alone),
-    ("the same, the last column of X differs", headers::last_column),
+    ("header lines alone, the last column of X differs", headers::last_column),
 ];
 
 /// Sets of nearly a hundred million traces, the most there can be at one channel
 /// a receiver.
 pub const WIDEST: [Large; 2] = [
     ("every receiver in every record", receivers::all),
-    ("the same, the last receiver of the last line lacks", receivers::last_lacks),
+    ("every receiver in every record, the last lacks", receivers::last_lacks),
 ];
 
-/// The lines below set A's header in a file of 9,999 lines.
+/// The sets whose check is measured.
+pub fn measured() -> impl Iterator<Item = Large> {
+    SEEDED.into_iter().chain(COMMON).chain(HOSTILE).chain(WIDEST)
+}
+
+/// The lines below set A's header in a file of so many lines.
+fn own(lines: usize) -> u32 {
+    (lines - last_header()) as u32
+}
+
+/// The same in a file of 9,999 lines.
 pub fn most() -> u32 {
-    most_below() as u32
+    own(FULL)
 }
 
 /// Set A's header, and below it what stands in the lines of each file.
@@ -52,6 +109,12 @@ fn below_header(
     headers_only().add_all(File::R, r).add_all(File::S, s).add_all(File::X, x)
 }
 
+/// The last line of a file changed.
+fn last(set: Set, file: File, change: impl FnOnce(Line) -> Line) -> Set {
+    let line = set.lines(file);
+    set.edit(file, line, change)
+}
+
 /// A record of its own for each shot, on channels from 1.
 fn record(n: u32) -> Line {
     relation().source(n).record(n)
@@ -60,11 +123,12 @@ fn record(n: u32) -> Line {
 /// Receivers, shots and records, as many as there can be; record n covers 200 receivers
 /// from its own on: 1,995,600 traces.
 pub fn two_million_traces() -> Set {
+    let most = most();
     let lines = |n: u32| {
-        let from = n.min(most() - 200);
+        let from = n.min(most - 200);
         record(n).channels(1, 200).receivers(from, from + 199)
     };
-    below_header((0..most()).map(receiver), (0..most()).map(shot), (0..most()).map(lines))
+    below_header((0..most).map(receiver), (0..most).map(shot), (0..most).map(lines))
 }
 
 /// Six lines of 1,659 receivers, and 1,995 shots that roll along them; each has a

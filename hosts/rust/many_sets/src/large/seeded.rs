@@ -22,8 +22,8 @@ pub fn seeded(random: &mut Random, lines: usize) -> Set {
         (run.first..run.first + run.receivers).map(|n| receiver(n).name(&run.name))
     });
     let r = with_markers(random, File::R, receivers.collect(), markers);
-    let in_time = moments(random, shots);
-    let s = with_markers(random, File::S, in_time, markers);
+    let points = in_time(random, (0..shots as u32).map(shot));
+    let s = with_markers(random, File::S, points, markers);
     let x: Vec<Line> = (0..shots)
         .flat_map(|n| {
             // A second line for each of the markers of S.
@@ -51,16 +51,16 @@ fn runs(random: &mut Random, mut receivers: usize) -> Vec<Run> {
     runs
 }
 
-/// So many shots, up to 20 seconds apart.
-fn moments(random: &mut Random, shots: usize) -> Vec<Line> {
+/// Shots up to 20 seconds apart.
+pub fn in_time(random: &mut Random, shots: impl Iterator<Item = Line>) -> Vec<Line> {
     let mut seconds = 6 * 3_600;
-    let mut shot_at = |n| {
+    let later = |shot: Line| {
         seconds += random.below(21) as u32;
         let (day, rest) = (seconds / 86_400, seconds % 86_400);
         let time = format!("{:02}{:02}{:02}", rest / 3_600, rest / 60 % 60, rest % 60);
-        shot(n).day(113 + day).time(&time)
+        shot.day(113 + day).time(&time)
     };
-    (0..shots as u32).map(&mut shot_at).collect()
+    shots.map(later).collect()
 }
 
 /// A record of one or two lines, each on part of a run of its own.

@@ -3,7 +3,7 @@
 use crate::compare::compare;
 use crate::tally::Kind::{Found, OfTheSet};
 use crate::tally::Tally;
-use many_sets::large::{most, survey, two_million_traces, HOSTILE};
+use many_sets::large::{most, survey, two_million_traces, FULL, HOSTILE};
 use many_sets::questions::{channel, spread, trace, Ask};
 use many_sets::run::{random, turns};
 use small_sets::place::{below, first};
@@ -23,7 +23,7 @@ fn full_sets() {
         tally.count(&compare(&survey, &question));
     }
     for ((_, make), ask) in HOSTILE.into_iter().zip(KINDS.into_iter().cycle()) {
-        let set = make();
+        let set = make(FULL);
         let question = ask(&mut random, &set);
         tally.count(&compare(&set, &question));
     }
