@@ -1,13 +1,13 @@
 /*
- * Every call in a thread whose stack is less than 1 MB. The arguments are the folder of a set of 9,999
- * lines a file and its last record. It prints the five answers in one line.
+ * Every call in a thread of a small stack. The arguments are the folder of a set of 9,999 lines a file
+ * and the record to ask for, on tape 100. It prints the five answers in one line.
  */
 #include "try.h"
 #include <pthread.h>
 #include <string.h>
 
-/* Whole pages below 1 MB; what the thread itself takes is in it. */
-enum { STACK = 1000000 / 4096 * 4096 };
+/* The bytes of the stack, in whole pages; what the thread itself takes is in it. */
+enum { STACK = 999424 };
 
 static const uint8_t tape[] = {'1', '0', '0', ' ', ' ', ' '};
 static uint8_t lines[19998], components[9999];

@@ -1,7 +1,8 @@
 //! Hosts in C, C++ and Python on the archive and its header: each is compiled where
 //! it has to be, and run.
 
-use many_sets::large::{most, two_million_traces};
+use many_sets::large::{most, two_million_traces, FULL, HOSTILE};
+use naive::HostNumber;
 use small_sets::place::{below, first};
 use small_sets::{File, Set};
 use std::ffi::OsStr;
@@ -109,22 +110,42 @@ fn python() {
     run("python3", &[&root().join("hosts/python/calls.py"), &shared, &set_a()]);
 }
 
-/// Every call in less than 1 MB of stack, on sets of 9,999 lines a file.
+/// What the naive reader answers to each call of `stack.c`, as it is printed.
+fn answers(set: &Set, record: u32) -> String {
+    let (Set { r, s, x }, tape, record) = (set, b"100   ", record.into());
+    let (mut lines, mut components) = ([0; 9_999], [0; 9_999]);
+    let checked = naive::check(r, s, x).host_number();
+    let trace = naive::trace(r, s, x, tape, record, 200).host_number();
+    let channel = naive::channel(r, s, x, tape, record, 9_999, 1).host_number();
+    let spread = naive::spread(r, s, x, tape, record, &mut lines, &mut components).host_number();
+    format!("{checked} {checked} {trace} {channel} {spread}\n")
+}
+
+/// Every call on a stack of the size that `stack.c` has, on sets of 9,999 lines a file
+/// that differ in what has to be sorted and searched.
 #[test]
 fn c_with_a_small_stack() {
     let stack = compiled("cc", "-std=c99", "stack.c", "stack");
-    let accepted = two_million_traces();
+    let (accepted, last_record) = (two_million_traces(), most() - 1);
+    let traces = 200 * most();
+    let found = format!("{traces} {traces} {} 200 200\n", 9_999 * 16 + 1);
+    assert_eq!(answers(&accepted, last_record), found);
     let refused = accepted.clone().put(File::X, 9_999, 8, "   0");
-    let traces = 200 * u64::from(most());
-    let last_record = (most() - 1).to_string();
-    let refusal = (16u64 << 40) + (3 << 32) + 9_999 * 256 + 2;
-    for (name, set, expected) in [
-        ("accepted", accepted, [traces, traces, 9_999 * 16 + 1, 200, 200]),
-        ("refused", refused, [refusal; 5]),
-    ] {
-        let folder = written(name, &set);
-        let answers = expected.map(|number: u64| number.to_string()).join(" ") + "\n";
-        assert_eq!(run(&stack, &[&folder, &last_record]), answers, "{name}");
+    let mut sets = vec![("accepted", accepted, last_record), ("refused", refused, last_record)];
+    for (name, make) in HOSTILE {
+        match name {
+            "one record shuffled" => sets.push((name, make(FULL), 11)),
+            "nine indices in turn" | "records of 129 lines" | "all shuffled" => {
+                sets.push((name, make(FULL), 8));
+            }
+            _ => {}
+        }
+    }
+    assert_eq!(sets.len(), 6);
+    for (name, set, record) in sets {
+        let folder = written(&name.replace(' ', "_"), &set);
+        let printed = run(&stack, &[&folder, &record.to_string()]);
+        assert_eq!(printed, answers(&set, record), "{name}");
     }
 }
 
