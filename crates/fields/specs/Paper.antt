@@ -7,11 +7,13 @@ use mathlib.Core.Path.{_≡_}
 use mathlib.Core.Bool.{Bool, true, _&&_}
 use lib.Dec.{eqb, leb, ltb}
 use Rattle.rules.specs.Numbers.{Number as PaperNumber, malformed, plus, minus}
-use Rattle.rules.specs.Kinds.{Kind as PaperKind, startsNonBlank, digitsOnly, coordinate, index, waterDepth, time, wholeNumber, signedNumber, signedDecimal, decimalNumber, code}
+use Rattle.rules.specs.Kinds.{Kind as PaperKind, startsNonBlank, digitsOnly, coordinate, index, waterDepth, time}
+use Rattle.rules.specs.Kinds.{wholeNumber, signedNumber, signedDecimal, decimalNumber, code}
 use Rattle.fields.specs.declared.Number.{Number}
 use Rattle.fields.specs.declared.Number.the-variants.{Malformed, Plus, Minus}
 use Rattle.fields.specs.declared.Kind.{Kind}
-use Rattle.fields.specs.declared.Kind.the-variants.{StartsNonBlank, DigitsOnly, Coordinate, Index, WaterDepth, Time, WholeNumber, SignedNumber, SignedDecimal, DecimalNumber, Code}
+use Rattle.fields.specs.declared.Kind.the-variants.{StartsNonBlank, DigitsOnly, Coordinate, Index, WaterDepth, Time}
+use Rattle.fields.specs.declared.Kind.the-variants.{WholeNumber, SignedNumber, SignedDecimal, DecimalNumber, Code}
 
 abbrev pub number : Number → PaperNumber
 number Malformed = malformed

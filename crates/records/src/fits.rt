@@ -2,6 +2,7 @@
 ghost use mathlib.Core.Path.{_≡_};
 ghost use mathlib.Core.Bool.{true, _&&_};
 ghost use Prim.Native.Nat.{ℕ, _+_, _≤_, _<_};
+ghost use Rattle.rules.specs.Sheet.{mostLines};
 ghost use Rattle.rules.specs.Plan.{run};
 ghost use Rattle.rules.specs.Text.{cols, blank as isBlank};
 ghost use Rattle.rules.specs.Layout.{sps93};
@@ -72,7 +73,7 @@ fn row_fits(l: &[u8; 80], w: Row, marker: bool) -> bool
 
 // 5 over the rows of a table, from the left: line k, from 0, of file i.
 fn fields_fit(l: &[u8; 80], t: Table, marker: bool, i: u8, k: usize) -> Verdict
-    requires { ⌜ k < 10000 ⌝ }
+    requires { ⌜ k ≤ mostLines ⌝ }
     ensures verdict { λ v. ⌜ paper v ≡ run (fieldsFit i k marker (now (l .entry)) (rowsOf t)) ⌝ }
 {
     let n = table::row_count(t);
@@ -89,7 +90,7 @@ fn fields_fit(l: &[u8; 80], t: Table, marker: bool, i: u8, k: usize) -> Verdict
 
 // 5 of line k, from 0, of file i: all rows at once, and one by one only where a field is bad.
 pub fn rule5(l: &[u8; 80], i: u8, k: usize) -> Verdict
-    requires { ⌜ k < 10000 ⌝ }
+    requires { ⌜ k ≤ mostLines ⌝ }
     ensures verdict { λ v. ⌜ paper v ≡ run (rule5Of i sps93 k (now (l .entry))) ⌝ }
 {
     if is_header(l) {
@@ -113,7 +114,7 @@ pub fn rule5(l: &[u8; 80], i: u8, k: usize) -> Verdict
 
 // 6 of line k of X, from 0.
 pub fn rule6(l: &[u8; 80], k: usize) -> Verdict
-    requires { ⌜ k < 10000 ⌝ }
+    requires { ⌜ k ≤ mostLines ⌝ }
     ensures verdict { λ v. ⌜ paper v ≡ run (rule6Of sps93 k (reachOf sps93 (now (l .entry)))) ⌝ }
 {
     let q = relation::reach_of(l);

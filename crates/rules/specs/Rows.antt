@@ -8,7 +8,8 @@ use Prim.Native.Nat.{ℕ}
 use mathlib.Core.Bool.{Bool, true, false}
 use mathlib.Core.List.{List, [], _∷_}
 use Rattle.rules.specs.Layout.{Layout, Span}
-use Rattle.rules.specs.Kinds.{Kind, startsNonBlank, digitsOnly, wholeNumber, signedNumber, decimalNumber, signedDecimal, coordinate, index, code, waterDepth, time, mayBeBlank}
+use Rattle.rules.specs.Kinds.{Kind, startsNonBlank, digitsOnly, wholeNumber, signedNumber, decimalNumber, signedDecimal, coordinate}
+use Rattle.rules.specs.Kinds.{index, code, waterDepth, time, mayBeBlank}
 
 pub record Row : Type 0 where
   pub columns : Span

@@ -45,8 +45,7 @@ loop-less c = search needs
 loop-again : tie.Need-loop-again Inv-loop μ-loop
 loop-again c =
     let at = c .before .before .before .loop in
-    let d = c .low .ensures in
-    (
+    let d = c .low .ensures in (
       omega arith,
       (
         omega arith,

@@ -8,6 +8,7 @@ use Rattle.rules.specs.Plan.{run}
 use borrow.Author.Tests.{not-false, not-true}
 use lib.ListN.{drop, length}
 use mathlib.Core.Path.{_∙_, _≡_, refl}
+use Rattle.rules.specs.Sheet.{mostLines}
 use borrow.Author.Needs.{needs}
 use native.Mathlib.Omega.{arith}
 use Rattle.records.proofs.fits.fields_fit.Statement.{statement}
@@ -38,6 +39,7 @@ cast-at-line : tie.Need-cast-at-line Inv-loop μ-loop
 cast-at-line c = let h = sized-is _ _ _ (c .before .before .before .row-at .ensures .1) in omega arith
 
 at-line-requires : tie.Need-at-line-requires Inv-loop μ-loop
+unfolding mostLines
 at-line-requires c κs = search needs
 
 returns : tie.Need-returns Inv-loop μ-loop

@@ -3,6 +3,7 @@ use Rattle.records.proofs.Six.{six-channels, six-count, six-fine, six-m
 use Rattle.rules.specs.Layout.{sps93}
 use Rattle.rules.specs.Relations.{reach}
 use mathlib.Core.Path.{_∙_}
+use Rattle.rules.specs.Sheet.{mostLines}
 use borrow.Author.Needs.{needs}
 use Rattle.records.proofs.fits.rule6.Statement.{statement}
 use Rattle.records.proofs.fits.rule6.Tie as tie
@@ -11,6 +12,7 @@ reach-of-requires : tie.Need-reach-of-requires
 reach-of-requires c κs = search needs
 
 at-line-requires : tie.Need-at-line-requires
+unfolding mostLines
 at-line-requires c κs = search needs
 
 returns : tie.Need-returns
@@ -22,6 +24,7 @@ returns c =
     c .at-line .ensures ∙ six-channels _ p _ e (d .if1 .taken)
 
 at-line-requires-2 : tie.Need-at-line-requires-2
+unfolding mostLines
 at-line-requires-2 c κs = search needs
 
 returns-2 : tie.Need-returns-2
@@ -39,6 +42,7 @@ cast-i : tie.Need-cast-i
 cast-i c = search needs
 
 at-line-requires-3 : tie.Need-at-line-requires-3
+unfolding mostLines
 at-line-requires-3 c κs = search needs
 
 returns-3 : tie.Need-returns-3
@@ -53,6 +57,7 @@ rem-if4 : tie.Need-rem-if4
 rem-if4 c = search needs
 
 at-line-requires-4 : tie.Need-at-line-requires-4
+unfolding mostLines
 at-line-requires-4 c κs = search needs
 
 returns-4 : tie.Need-returns-4
@@ -70,6 +75,7 @@ receivers-requires : tie.Need-receivers-requires
 receivers-requires c κs = search needs
 
 at-line-requires-5 : tie.Need-at-line-requires-5
+unfolding mostLines
 at-line-requires-5 c κs = search needs
 
 returns-5 : tie.Need-returns-5
