@@ -1,8 +1,7 @@
 -- The steps of the form of a file, by what the code finds at each.
-use Prim.Native.Nat.{ℕ, _+_, _<_}
+use Prim.Native.Nat.{ℕ, _+_, _≤_}
 use native.Mathlib.Numerals.{add-one}
-use native.Mathlib.Omega.{arith}
-use mathlib.Core.Path.{_≡_, refl, sym, ap, _∙_}
+use mathlib.Core.Path.{_≡_, refl, sym, ap, ap₂, _∙_}
 use mathlib.Core.Bool.{Bool, true, false, not, _&&_}
 use mathlib.Core.List.{List}
 use lib.ListN.{getD}
@@ -10,9 +9,8 @@ use borrow.Author.Tests.{eq-eqb, ne-eqb, leb-true}
 use Rattle.rules.specs.Places.{pick, every}
 use Rattle.rules.specs.Plan.{Verdict as PaperVerdict, fine, refused, №, _orElse_, Plan, _before_, run}
 use Rattle.rules.specs.Text.{col}
-use Rattle.rules.specs.Layout.{sps93}
-use Rattle.rules.specs.Sheet.{mostLines}
-use Rattle.rules.specs.Disc.{disc, file}
+use Rattle.rules.specs.Layout.{Layout}
+use Rattle.rules.specs.Sheet.{Sheet, mostLines}
 use Rattle.rules.specs.Lines.{letter, isHeader}
 use Rattle.rules.specs.Relations.{reach}
 use Rattle.rules.specs.Form.{rule1, rule2, rule3, rule4, rule6, lineFits}
@@ -21,7 +19,7 @@ use Rattle.rules.proofs.Steps.{need-met, need-broken, before-met, before-broken
 use Rattle.lines.specs.declared.Verdict.{Verdict}
 use Rattle.lines.specs.declared.Verdict.the-variants.{Fine, Refused}
 use Rattle.lines.specs.Paper.{paper}
-use Rattle.form.specs.Steps.{headersTo, numbersOf, fieldsOf}
+use Rattle.form.specs.Steps.{headersTo, letterFits, numbersOf, fieldsOf}
 
 -- a call's verdict on the first part of a plan, and the plan
 module _ (v : Verdict) (p : Plan) (e : paper v ≡ run p) where
@@ -46,35 +44,32 @@ grouped p q r = go (run p) (run q) (run r)
     go (refused n) v w = refl
 
 -- 2 leaves few enough lines to number
-pub few-lines : (f : List ℕ) (i : ℕ) → fine ≡ run (rule1 i (file f) before rule2 i (file f)) → file f .count < 10000
-unfolding rule1 rule2 mostLines
-few-lines f i e = let h = leb-true (file f .count) 9999 (run-met (rule1 i (file f) before rule2 i (file f)) .0 (sym e) .1) in omega arith
+pub few-lines : (f : Sheet) (i : ℕ) → fine ≡ run (rule1 i f before rule2 i f) → f .count ≤ mostLines
+unfolding rule1 rule2
+few-lines f i e = leb-true (f .count) mostLines (run-met (rule1 i f before rule2 i f) .0 (sym e) .1)
 
--- 4
-module _ (f l : List ℕ) (i k : ℕ) (e : l ≡ file f .row k) (t : Bool) (q : t ≡ isHeader l) where
-  whole : t ≡ isHeader (file f .row k)
-  whole = q ∙ ap isHeader e
+-- 4 of a line
+module _ (i k : ℕ) (h : Bool) (l : List ℕ) (t : Bool) (q : t ≡ isHeader l) where
+  pub four-under-headers : t ≡ true → h ≡ true → fine ≡ run (letterFits i k h l)
+  unfolding letterFits pick
+  four-under-headers y z = need-met _ _ (rw (← q, y) z)
 
-  pub four-under-headers : t ≡ true → (h : Bool) → h ≡ headersTo f k → h ≡ true → fine ≡ run (rule4 i (file f) k)
-  unfolding rule4 headersTo pick
-  four-under-headers y h p z = need-met _ _ (rw (← whole, y) (sym p ∙ z))
-
-  pub four-after-data : t ≡ true → (h : Bool) → h ≡ headersTo f k → h ≡ false → refused (№ 4 i (k + 1) 1) ≡ run (rule4 i (file f) k)
-  unfolding rule4 headersTo pick
-  four-after-data y h p z = need-broken _ _ (rw (← whole, y) (sym p ∙ z))
+  pub four-after-data : t ≡ true → h ≡ false → refused (№ 4 i (k + 1) 1) ≡ run (letterFits i k h l)
+  unfolding letterFits pick
+  four-after-data y z = need-broken _ _ (rw (← q, y) z)
 
   module _ (n : t ≡ false) (b : ℕ) (p : b ≡ letter i) where
-    pub four-letter : getD l 0 0 ≡ b → fine ≡ run (rule4 i (file f) k)
-    unfolding rule4 pick col
-    four-letter z = need-met _ _ (rw (← whole, n) (eq-eqb _ _ (ap (λ (l : List ℕ). getD l 0 0) (sym e) ∙ z ∙ p)))
+    pub four-letter : getD l 0 0 ≡ b → fine ≡ run (letterFits i k h l)
+    unfolding letterFits pick col
+    four-letter z = need-met _ _ (rw (← q, n) (eq-eqb _ _ (z ∙ p)))
 
-    pub four-other : (getD l 0 0 ≡ b → ⊥) → refused (№ 4 i (k + 1) 1) ≡ run (rule4 i (file f) k)
-    unfolding rule4 pick col
-    four-other z = need-broken _ _ (rw (← whole, n) (ne-eqb _ _ (λ y. z (ap (λ (l : List ℕ). getD l 0 0) e ∙ y ∙ sym p))))
+    pub four-other : (getD l 0 0 ≡ b → ⊥) → refused (№ 4 i (k + 1) 1) ≡ run (letterFits i k h l)
+    unfolding letterFits pick col
+    four-other z = need-broken _ _ (rw (← q, n) (ne-eqb _ _ (λ y. z (y ∙ sym p))))
 
 -- 6 of a line
-module _ (i k : ℕ) (l : List ℕ) where
-  pub six-other : (i ≡ 3 → ⊥) → fine ≡ run (numbersOf i k l)
+module _ (L : Layout) (i k : ℕ) (l : List ℕ) where
+  pub six-other : (i ≡ 3 → ⊥) → fine ≡ run (numbersOf L i k l)
   unfolding numbersOf
   six-other n = when-off _ _ (rw (ne-eqb i 3 n) (never (not (isHeader l))))
     where
@@ -83,30 +78,27 @@ module _ (i k : ℕ) (l : List ℕ) where
       never false = refl
 
   module _ (t : Bool) (q : t ≡ isHeader l) where
-    pub six-header : t ≡ true → fine ≡ run (numbersOf i k l)
+    pub six-header : t ≡ true → fine ≡ run (numbersOf L i k l)
     unfolding numbersOf
     six-header y = when-off _ _ (rw (← q, y))
 
-    pub six-relation : t ≡ false → i ≡ 3 → (v : PaperVerdict) → v ≡ run (rule6 sps93 k (reach sps93 l)) → v ≡ run (numbersOf i k l)
+    pub six-relation : t ≡ false → i ≡ 3 → (v : PaperVerdict) → v ≡ run (rule6 L k (reach L l)) → v ≡ run (numbersOf L i k l)
     unfolding numbersOf
     six-relation n x v p = p ∙ when-on _ _ (rw (← q, n, eq-eqb i 3 x))
 
 -- 3, then the rest of a line
-module _ (f : List ℕ) (i k c : ℕ) (e : c ≡ file f .stray k) where
-  pub line-stray : (c ≡ 0 → ⊥) → refused (№ 3 i (k + 1) c) ≡ run (lineFits i (file f) k)
+module _ (f : Sheet) (i k c : ℕ) (e : c ≡ f .stray k) where
+  pub line-stray : (c ≡ 0 → ⊥) → refused (№ 3 i (k + 1) c) ≡ run (lineFits i f k)
   unfolding lineFits rule3
   line-stray n = before-broken _ _ _ (rw (← e) (need-broken _ _ (ne-eqb c 0 n)))
 
-  pub line-clean : c ≡ 0 → (v : PaperVerdict) → v ≡ run (rule4 i (file f) k before fieldsOf i k (file f .row k)) → v ≡ run (lineFits i (file f) k)
-  unfolding lineFits rule3 fieldsOf numbersOf disc
-  line-clean z v p = p ∙ before-met _ _ (need-met _ _ (eq-eqb _ 0 (sym e ∙ z)))
+  module _ (z : c ≡ 0) (L : Layout) (y : f .layout ≡ L) (l : List ℕ) (r : l ≡ f .row k) (h : Bool) (q : h ≡ headersTo f k) where
+    pub line-clean : (v : PaperVerdict) → v ≡ run (letterFits i k h l before fieldsOf L i k l) → v ≡ run (lineFits i f k)
+    unfolding lineFits rule3 rule4 letterFits headersTo fieldsOf numbersOf
+    line-clean v p = rw (r, q, ← y) at p ∙ before-met _ _ (need-met _ _ (eq-eqb _ 0 (sym e ∙ z)))
 
 -- the lines before the next are header lines
-module _ (f : List ℕ) (k : ℕ) (h : Bool) (p : h ≡ headersTo f k) where
-  pub headers-end : h ≡ false → false ≡ headersTo f (k + 1)
-  unfolding headersTo every
-  headers-end z = let e : every k (λ j. isHeader (file f .row j)) ≡ false = sym p ∙ z in rw add-one (rw e)
-
-  pub headers-more : h ≡ true → (t : Bool) → t ≡ isHeader (file f .row k) → t ≡ headersTo f (k + 1)
-  unfolding headersTo every
-  headers-more z t q = let e : every k (λ j. isHeader (file f .row j)) ≡ true = sym p ∙ z in rw add-one (rw e q)
+pub headers-next : (f : Sheet) (k : ℕ) (h : Bool) → h ≡ headersTo f k → (l : List ℕ) → l ≡ f .row k → (t : Bool) → t ≡ (h && isHeader l)
+    → t ≡ headersTo f (k + 1)
+unfolding headersTo every
+headers-next f k h p l e t q = rw add-one (q ∙ ap₂ (λ (h : Bool) (l : List ℕ). h && isHeader l) p e)

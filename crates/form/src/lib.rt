@@ -1,15 +1,16 @@
 // The form of one file: the first breach of 1 to 6, in the paper's order. 1, 2, then line by line 3 (whole line), 4, 5, 6.
 ghost use mathlib.Core.Path.{_≡_};
 ghost use mathlib.Core.Bool.{_&&_};
-ghost use Prim.Native.Nat.{ℕ, _+_, _<_};
-ghost use Rattle.rules.specs.Places.{every};
+ghost use Prim.Native.Nat.{ℕ, _+_, _≤_, _<_};
 ghost use Rattle.rules.specs.Plan.{run, upTo};
 ghost use Rattle.rules.specs.Layout.{sps93};
-ghost use Rattle.rules.specs.Disc.{file};
+ghost use Rattle.rules.specs.Sheet.{mostLines};
 ghost use Rattle.rules.specs.Lines.{letter as letterOf, isHeader};
-ghost use Rattle.rules.specs.Form.{rule4 as rule4Of, lineFits, form as formOf};
+ghost use Rattle.rules.specs.Form.{lineFits, form as formOf};
 ghost use Rattle.lines.specs.Paper.{paper};
-ghost use Rattle.form.specs.Steps.{headersTo, numbersOf, fieldsOf};
+ghost use Rattle.lines.specs.Reading.{sheetOf};
+ghost use Rattle.form.specs.Steps.{headersTo, letterFits, numbersOf, fieldsOf};
+use lines::Reading;
 use lines::Verdict;
 use records::fits;
 
@@ -27,26 +28,26 @@ fn letter(i: u8) -> u8
 }
 
 // 4 of line k: H where only header lines stand above it, or the file's letter.
-fn rule4(l: &[u8; 80], f: &[u8], i: u8, k: usize, headers: bool) -> Verdict
-    requires { ⌜ (k < 10000) × ((now l ≡ file (now f) .row k) × (headers ≡ headersTo (now f) k)) ⌝ }
-    ensures verdict { λ v. ⌜ paper v ≡ run (rule4Of i (file (now (f .entry))) k) ⌝ }
+fn rule4(l: &[u8; 80], i: u8, k: usize, headers: bool) -> Verdict
+    requires { ⌜ k ≤ mostLines ⌝ }
+    ensures verdict { λ v. ⌜ paper v ≡ run (letterFits i k headers (now (l .entry))) ⌝ }
 {
     if fits::is_header(l) {
         if headers {
             return Verdict::Fine;
         }
-        return Verdict::Refused(4, i, k as u32 + 1, 1);
+        return lines::at_line(4, i, k, 1);
     }
     if l[0] == letter(i) {
         return Verdict::Fine;
     }
-    Verdict::Refused(4, i, k as u32 + 1, 1)
+    lines::at_line(4, i, k, 1)
 }
 
 // 6 of line k, where it is a relation line.
 fn numbers_fit(l: &[u8; 80], i: u8, k: usize) -> Verdict
-    requires { ⌜ k < 10000 ⌝ }
-    ensures verdict { λ v. ⌜ paper v ≡ run (numbersOf i k (now (l .entry))) ⌝ }
+    requires { ⌜ k ≤ mostLines ⌝ }
+    ensures verdict { λ v. ⌜ paper v ≡ run (numbersOf sps93 i k (now (l .entry))) ⌝ }
 {
     if i != 3 {
         return Verdict::Fine;
@@ -59,8 +60,8 @@ fn numbers_fit(l: &[u8; 80], i: u8, k: usize) -> Verdict
 
 // 5 of line k, then 6.
 pub fn fields_fit(l: &[u8; 80], i: u8, k: usize) -> Verdict
-    requires { ⌜ k < 10000 ⌝ }
-    ensures verdict { λ v. ⌜ paper v ≡ run (fieldsOf i k (now (l .entry))) ⌝ }
+    requires { ⌜ k ≤ mostLines ⌝ }
+    ensures verdict { λ v. ⌜ paper v ≡ run (fieldsOf sps93 i k (now (l .entry))) ⌝ }
 {
     let v = fits::rule5(l, i, k);
     if let Verdict::Refused(_, _, _, _) = v {
@@ -69,61 +70,60 @@ pub fn fields_fit(l: &[u8; 80], i: u8, k: usize) -> Verdict
     numbers_fit(l, i, k)
 }
 
-// 3 of line k, then 4, then 5 and 6. The lines before it are all header lines where `headers` says so.
-fn line_fits(f: &[u8], i: u8, k: usize, headers: bool) -> Verdict
-    requires { ⌜ (k < 9999) × ((k < file (now f) .count) × (headers ≡ headersTo (now f) k)) ⌝ }
-    ensures verdict { λ v. ⌜ paper v ≡ run (lineFits i (file (now (f .entry))) k) ⌝ }
+// 3 of line k, then 4, then 5 and 6; l is that line, and the lines before it are all header lines where `headers` says so.
+fn line_fits(how: Reading, f: &[u8], l: &[u8; 80], i: u8, k: usize, headers: bool) -> Verdict
+    requires { ⌜ (k < sheetOf how (now f) .count) × (sheetOf how (now f) .count ≤ mostLines) ⌝ }
+    requires { ⌜ (now l ≡ sheetOf how (now f) .row k) × (headers ≡ headersTo (sheetOf how (now f)) k) ⌝ }
+    ensures verdict { λ v. ⌜ paper v ≡ run (lineFits i (sheetOf how (now (f .entry))) k) ⌝ }
 {
-    let c = lines::stray(f, k);
+    let c = lines::stray(how, f, k);
     if c != 0 {
-        return Verdict::Refused(3, i, k as u32 + 1, c);
+        return lines::at_line(3, i, k, c);
     }
-    let l = lines::line_of(f, k);
-    let v = rule4(&l, f, i, k, headers);
+    let v = rule4(l, i, k, headers);
     if let Verdict::Refused(_, _, _, _) = v {
         return v;
     }
-    fields_fit(&l, i, k)
+    fields_fit(l, i, k)
 }
 
-// Whether the lines before line k + 1 are all header lines.
-fn still_headers(f: &[u8], k: usize, headers: bool) -> bool
-    requires { ⌜ (k < file (now f) .count) × (headers ≡ headersTo (now f) k) ⌝ }
-    ensures value { λ t. ⌜ t ≡ headersTo (now (f .entry)) (k + 1) ⌝ }
+// Whether the lines up to line l are all header lines, where `headers` says it of those before it.
+fn still_headers(l: &[u8; 80], headers: bool) -> bool
+    ensures value { λ t. ⌜ t ≡ (headers && isHeader (now (l .entry))) ⌝ }
 {
     if !headers {
         return false;
     }
-    let l = lines::line_of(f, k);
-    fits::is_header(&l)
+    fits::is_header(l)
 }
 
 // 3 to 6, line by line.
-fn lines_fit(f: &[u8], i: u8) -> Verdict
-    requires { ⌜ file (now f) .count < 10000 ⌝ }
-    ensures verdict { λ v. ⌜ paper v ≡ run (upTo (file (now (f .entry)) .count) (lineFits i (file (now (f .entry))))) ⌝ }
+fn lines_fit(how: Reading, f: &[u8], i: u8) -> Verdict
+    requires { ⌜ sheetOf how (now f) .count ≤ mostLines ⌝ }
+    ensures verdict { λ v. ⌜ paper v ≡ run (upTo (sheetOf how (now (f .entry)) .count) (lineFits i (sheetOf how (now (f .entry))))) ⌝ }
 {
-    let n = lines::line_count(f);
+    let n = lines::line_count(how, f);
     let mut headers = true;
     let mut k = 0;
     while k < n {
-        let v = line_fits(f, i, k, headers);
+        let l = lines::line_of(how, f, k);
+        let v = line_fits(how, f, &l, i, k, headers);
         if let Verdict::Refused(_, _, _, _) = v {
             return v;
         }
-        headers = still_headers(f, k, headers);
+        headers = still_headers(&l, headers);
         k += 1;
     }
     Verdict::Fine
 }
 
 // The form of file i (R 1, S 2, X 3).
-pub fn form(f: &[u8], i: u8) -> Verdict
-    ensures verdict { λ v. ⌜ paper v ≡ run (formOf i (file (now (f .entry)))) ⌝ }
+pub fn form(how: Reading, f: &[u8], i: u8) -> Verdict
+    ensures verdict { λ v. ⌜ paper v ≡ run (formOf i (sheetOf how (now (f .entry)))) ⌝ }
 {
-    let v = lines::length_fits(f, i);
+    let v = lines::length_fits(how, f, i);
     if let Verdict::Refused(_, _, _, _) = v {
         return v;
     }
-    lines_fit(f, i)
+    lines_fit(how, f, i)
 }
