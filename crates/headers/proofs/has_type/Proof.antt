@@ -2,10 +2,9 @@
 use Prim.Native.Nat.{_-_, _≤_, ℕ}
 use Rattle.headers.specs.Steps.{hasType}
 use Rattle.rules.proofs.Steps.{some-more, some-none, some-stop}
-use Rattle.rules.specs.Disc.{file}
-use Rattle.rules.specs.Headers.{isType}
-use Rattle.rules.specs.Layout.{sps93}
-use Rattle.rules.specs.Places.{some}
+use Rattle.lines.specs.Reading.{sheetOf}
+use Rattle.lines.proofs.Sheets.{layout-is}
+use Rattle.headers.proofs.Laws.{type-here}
 use borrow.Author.Needs.{needs}
 use mathlib.Core.Bool.{false}
 use mathlib.Core.Path.{_∙_, _≡_, ap, sym}
@@ -14,12 +13,13 @@ use Rattle.headers.proofs.has_type.Statement.{statement}
 use Rattle.headers.proofs.has_type.Tie as tie
 
 abbrev Inv-loop : tie.InvT-loop
-Inv-loop f n t k₀ k = (k ≤ n) × (some k (λ j. isType sps93 t (file f .row j)) ≡ false)
+Inv-loop how f n t k₀ k = (k ≤ n) × (hasType (sheetOf how f) k t ≡ false)
 
 abbrev μ-loop : tie.MeasureT-loop
-μ-loop f n t k₀ k = n - k
+μ-loop how f n t k₀ k = n - k
 
 loop-holds : tie.Need-loop-holds Inv-loop μ-loop
+unfolding hasType
 loop-holds c = (omega arith, some-none _)
 
 line-of-requires : tie.Need-line-of-requires Inv-loop μ-loop
@@ -32,7 +32,10 @@ returns : tie.Need-returns Inv-loop μ-loop
 unfolding hasType
 returns c =
     let at = c .before .before .before .before .before .loop in
-    sym (some-stop _ _ _ (omega arith) (sym (c .before .is-type .ensures ∙ ap (isType sps93 _) (c .before .before .before .line-of .ensures)) ∙ c .if1 .taken))
+    let a = c .before .before .before .before .before .before .before .args in
+    let q = type-here (sheetOf (a .how) (a .f .now)) _ (layout-is (a .how) (a .f .now)) _ (at .k)
+    (c .before .before .before .line-of .ensures) _ _ (c .before .is-type .ensures) in
+    sym (some-stop _ _ _ (omega arith) (sym q ∙ c .if1 .taken))
 
 add-k : tie.Need-add-k Inv-loop μ-loop
 add-k c = search needs
@@ -41,16 +44,19 @@ loop-less : tie.Need-loop-less Inv-loop μ-loop
 loop-less c = search needs
 
 loop-again : tie.Need-loop-again Inv-loop μ-loop
+unfolding hasType
 loop-again c =
     let at = c .before .before .before .before .before .loop in
-    (omega arith, some-more _ _ (at .inv .1) (sym (c .before .is-type .ensures ∙ ap (isType sps93 _) (c .before .before .before .line-of .ensures)) ∙ c .if1 .left))
+    let a = c .before .before .before .before .before .before .before .args in
+    let q = type-here (sheetOf (a .how) (a .f .now)) _ (layout-is (a .how) (a .f .now)) _ (at .k)
+    (c .before .before .before .line-of .ensures) _ _ (c .before .is-type .ensures) in
+    (omega arith, some-more _ _ (at .inv .1) (sym q ∙ c .if1 .left))
 
 returns-2 : tie.Need-returns-2 Inv-loop μ-loop
-unfolding hasType
 returns-2 c =
     let at = c .before .loop in
     let a = c .before .before .before .args in
-    sym (at .inv .1) ∙ ap (λ (k : ℕ). some k (λ j. isType sps93 (a .t) (file (a .f .now) .row j))) (omega arith)
+    sym (at .inv .1) ∙ ap (λ (k : ℕ). hasType (sheetOf (a .how) (a .f .now)) k (a .t)) (omega arith)
 
 pub has-type-spec : {M : Type 1} → statement M
 has-type-spec =

@@ -1,8 +1,5 @@
--- `headers::headers_fit` meets its contract. Assumes nothing.
-use Rattle.form.proofs.Laws.{is-met, stops-at}
-use Rattle.rules.proofs.Steps.{before-met}
 use borrow.Author.Needs.{needs}
-use mathlib.Core.Path.{_∙_}
+use Rattle.headers.proofs.Laws.{breaks-7, breaks-8, breaks-9, last-9}
 use Rattle.headers.proofs.headers_fit.Statement.{statement}
 use Rattle.headers.proofs.headers_fit.Tie as tie
 
@@ -13,7 +10,7 @@ enum-told : tie.Need-enum-told
 enum-told c = search needs
 
 returns : tie.Need-returns
-returns c = stops-at _ _ (c .before .before .rule7 .ensures) (c .enum-told .given .1) _
+returns c = breaks-7 _ _ _ _ (c .before .before .rule7 .ensures) (c .enum-told .given .1)
 
 enum-told-2 : tie.Need-enum-told-2
 enum-told-2 c = search needs
@@ -27,7 +24,7 @@ enum-told-3 c = search needs
 returns-2 : tie.Need-returns-2
 returns-2 c =
     let x = c .before .before .before in
-    stops-at _ _ (c .before .before .rule8 .ensures) (c .enum-told3 .given .1) _ ∙ before-met _ _ (is-met _ _ (x .before .before .rule7 .ensures) (x .enum-told2 .given .1))
+    breaks-8 _ _ _ _ (x .before .before .rule7 .ensures) (x .enum-told2 .given .1) _ (c .before .before .rule8 .ensures) (c .enum-told3 .given .1)
 
 enum-told-4 : tie.Need-enum-told-4
 enum-told-4 c = search needs
@@ -42,9 +39,8 @@ returns-3 : tie.Need-returns-3
 returns-3 c =
     let y = c .before .before .before in
     let x = y .before .before .before in
-    stops-at _ _ (c .before .before .rule9 .ensures) (c .enum-told5 .given .1) _
-    ∙ before-met _ _ (is-met _ _ (y .before .before .rule8 .ensures) (y .enum-told4 .given .1))
-    ∙ before-met _ _ (is-met _ _ (x .before .before .rule7 .ensures) (x .enum-told2 .given .1))
+    breaks-9 _ _ _ _ (x .before .before .rule7 .ensures) (x .enum-told2 .given .1) _ (y .before .before .rule8 .ensures) (y .enum-told4 .given .1) _
+    (c .before .before .rule9 .ensures) (c .enum-told5 .given .1)
 
 enum-told-6 : tie.Need-enum-told-6
 enum-told-6 c = search needs
@@ -57,10 +53,8 @@ returns-4 c =
     let z = c .before in
     let y = z .before .before .before in
     let x = y .before .before .before in
-    c .rule92 .ensures
-    ∙ before-met _ _ (is-met _ _ (z .before .before .rule9 .ensures) (z .enum-told6 .given .1))
-    ∙ before-met _ _ (is-met _ _ (y .before .before .rule8 .ensures) (y .enum-told4 .given .1))
-    ∙ before-met _ _ (is-met _ _ (x .before .before .rule7 .ensures) (x .enum-told2 .given .1))
+    last-9 _ _ _ _ (x .before .before .rule7 .ensures) (x .enum-told2 .given .1) _ (y .before .before .rule8 .ensures) (y .enum-told4 .given .1) _
+    (z .before .before .rule9 .ensures) (z .enum-told6 .given .1) (c .rule92 .result) (c .rule92 .ensures)
 
 pub headers-fit-spec : {M : Type 1} → statement M
 headers-fit-spec =

@@ -2,7 +2,7 @@
 use Prim.Native.Nat.{_-_, _≤_, ℕ}
 use Rattle.headers.proofs.Laws.{data-here}
 use Rattle.rules.proofs.Steps.{least-more, least-none-yet, least-stop}
-use Rattle.rules.specs.Disc.{file}
+use Rattle.lines.specs.Reading.{sheetOf}
 use Rattle.rules.specs.Lines.{heads, isData}
 use Rattle.rules.specs.Places.{least}
 use borrow.Author.Needs.{needs}
@@ -12,10 +12,10 @@ use Rattle.headers.proofs.heads.Statement.{statement}
 use Rattle.headers.proofs.heads.Tie as tie
 
 abbrev Inv-loop : tie.InvT-loop
-Inv-loop f n k₀ k = (k ≤ n) × (least k (isData (file f)) ≡ k)
+Inv-loop how f n k₀ k = (k ≤ n) × (least k (isData (sheetOf how f)) ≡ k)
 
 abbrev μ-loop : tie.MeasureT-loop
-μ-loop f n k₀ k = n - k
+μ-loop how f n k₀ k = n - k
 
 line-count-requires : tie.Need-line-count-requires Inv-loop μ-loop
 line-count-requires c κs = search needs
@@ -34,7 +34,8 @@ unfolding heads
 returns c =
     let at = c .before .before .before .before .before .loop in
     let n = c .before .before .before .before .before .before .line-count .ensures in
-    sym (least-stop _ _ _ (omega arith) (at .inv .1) (sym (data-here _ _ _ (c .before .before .before .line-of .ensures) _ (c .before .is-header .ensures)) ∙ c .if1 .taken))
+    sym (least-stop _ _ _ (omega arith) (at .inv .1)
+    (sym (data-here _ _ _ (c .before .before .before .line-of .ensures) _ (c .before .is-header .ensures)) ∙ c .if1 .taken))
 
 add-k : tie.Need-add-k Inv-loop μ-loop
 add-k c = search needs
@@ -44,8 +45,11 @@ loop-less c = search needs
 
 loop-again : tie.Need-loop-again Inv-loop μ-loop
 loop-again c =
-    let at = c .before .before .before .before .before .loop in
-    (omega arith, least-more _ _ (at .inv .1) (sym (data-here _ _ _ (c .before .before .before .line-of .ensures) _ (c .before .is-header .ensures)) ∙ c .if1 .left))
+    let at = c .before .before .before .before .before .loop in (
+      omega arith,
+      least-more _ _ (at .inv .1)
+          (sym (data-here _ _ _ (c .before .before .before .line-of .ensures) _ (c .before .is-header .ensures)) ∙ c .if1 .left),
+    )
 
 returns-2 : tie.Need-returns-2 Inv-loop μ-loop
 unfolding heads
@@ -53,7 +57,8 @@ returns-2 c =
     let at = c .before .loop in
     let n = c .before .before .line-count .ensures in
     let z : c .before .before .line-count .result ≡ at .k = omega arith in
-    z ∙ sym (at .inv .1) ∙ ap (λ (k : ℕ). least k (isData (file (c .before .before .before .before .args .f .now)))) (omega arith)
+    let a = c .before .before .before .before .args in
+    z ∙ sym (at .inv .1) ∙ ap (λ (k : ℕ). least k (isData (sheetOf (a .how) (a .f .now)))) (omega arith)
 
 pub heads-spec : {M : Type 1} → statement M
 heads-spec =

@@ -4,7 +4,9 @@ use Rattle.form.proofs.Laws.{is-broken, is-met}
 use Rattle.headers.proofs.Laws.{eight-of, heads-below}
 use Rattle.lines.specs.Paper.{paper}
 use Rattle.rules.proofs.Steps.{none-yet, one-more, stops-here}
-use Rattle.rules.specs.Disc.{file}
+use Rattle.rules.specs.Sheet.{mostLines}
+use Rattle.lines.specs.Reading.{sheetOf}
+use Rattle.lines.proofs.Sheets.{layout-is}
 use Rattle.rules.specs.Headers.{rule8}
 use Rattle.rules.specs.Plan.{fine, run, upTo}
 use borrow.Author.Needs.{needs}
@@ -14,10 +16,10 @@ use Rattle.headers.proofs.rule8.Statement.{statement}
 use Rattle.headers.proofs.rule8.Tie as tie
 
 abbrev Inv-loop : tie.InvT-loop
-Inv-loop r n k₀ k = (k ≤ n) × (fine ≡ run (upTo k (rule8 (file r))))
+Inv-loop how r n k₀ k = (k ≤ n) × (fine ≡ run (upTo k (rule8 (sheetOf how r))))
 
 abbrev μ-loop : tie.MeasureT-loop
-μ-loop r n k₀ k = n - k
+μ-loop how r n k₀ k = n - k
 
 heads-requires : tie.Need-heads-requires Inv-loop μ-loop
 heads-requires c κs = search needs
@@ -37,9 +39,12 @@ enum-told c = search needs
 returns : tie.Need-returns Inv-loop μ-loop
 returns c =
     let at = c .before .before .before .before .before .before .loop in
+    let a = c .before .before .before .before .before .before .before .before .before .args in
     let n = c .before .before .before .before .before .before .before .heads .ensures in
     ap paper (c .enum-told .given .1)
-    ∙ stops-here _ _ _ _ (omega arith) (at .inv .1) (is-broken _ _ (c .before .before .line-names .ensures) (c .enum-told .given .1) ∙ eight-of _ _ _ (c .before .before .before .before .line-of .ensures))
+    ∙ stops-here _ _ _ _ (omega arith) (at .inv .1)
+    (is-broken _ _ (c .before .before .line-names .ensures) (c .enum-told .given .1)
+    ∙ eight-of _ _ (layout-is (a .how) (a .r .now)) _ _ (c .before .before .before .before .line-of .ensures))
 
 enum-told-2 : tie.Need-enum-told-2 Inv-loop μ-loop
 enum-told-2 c = search needs
@@ -53,13 +58,19 @@ loop-less c = search needs
 loop-again : tie.Need-loop-again Inv-loop μ-loop
 loop-again c =
     let at = c .before .before .before .before .before .before .loop in
-    (omega arith, one-more _ _ (at .inv .1) (is-met _ _ (c .before .before .line-names .ensures) (c .enum-told2 .given .1) ∙ eight-of _ _ _ (c .before .before .before .before .line-of .ensures)))
+    let a = c .before .before .before .before .before .before .before .before .before .args in (
+      omega arith,
+      one-more _ _ (at .inv .1)
+          (is-met _ _ (c .before .before .line-names .ensures) (c .enum-told2 .given .1)
+          ∙ eight-of _ _ (layout-is (a .how) (a .r .now)) _ _ (c .before .before .before .before .line-of .ensures)),
+    )
 
 returns-2 : tie.Need-returns-2 Inv-loop μ-loop
 returns-2 c =
     let at = c .before .loop in
     let n = c .before .before .heads .ensures in
-    at .inv .1 ∙ ap (λ (k : ℕ). run (upTo k (rule8 (file (c .before .before .before .before .args .r .now))))) (omega arith)
+    let a = c .before .before .before .before .args in
+    at .inv .1 ∙ ap (λ (k : ℕ). run (upTo k (rule8 (sheetOf (a .how) (a .r .now))))) (omega arith)
 
 pub rule8-spec : {M : Type 1} → statement M
 rule8-spec =

@@ -1,12 +1,12 @@
--- `headers::same_columns` meets its contract. Assumes nothing.
 use Prim.Native.Nat.{_+_, _-_, _≤_}
-use Rattle.headers.proofs.Laws.{columns-end, columns-step, columns-stop}
-use Rattle.rules.specs.Headers.{sameColumns}
-use Rattle.rules.specs.Plan.{run}
-use borrow.Author.Needs.{needs}
-use lib.ListN.{drop}
-use mathlib.Core.Path.{_≡_}
 use native.Mathlib.Omega.{arith}
+use mathlib.Core.Path.{_≡_, _∙_}
+use lib.ListN.{drop}
+use borrow.Author.Needs.{needs}
+use Rattle.rules.specs.Plan.{run}
+use Rattle.rules.specs.Sheet.{mostLines}
+use Rattle.rules.specs.Headers.{sameColumns}
+use Rattle.headers.proofs.Laws.{columns-end, columns-step, columns-stop}
 use Rattle.headers.proofs.same_columns.Statement.{statement}
 use Rattle.headers.proofs.same_columns.Tie as tie
 
@@ -25,23 +25,21 @@ element-copy-out-if1 c = search needs
 element-copy-out-if1-2 : tie.Need-element-copy-out-if1-2 Inv-loop μ-loop
 element-copy-out-if1-2 c = search needs
 
-cast-t13 : tie.Need-cast-t13 Inv-loop μ-loop
-cast-t13 c = search needs
+cast-at-line : tie.Need-cast-at-line Inv-loop μ-loop
+cast-at-line c = search needs
 
-add-t14 : tie.Need-add-t14 Inv-loop μ-loop
-add-t14 c = search needs
+add-at-line : tie.Need-add-at-line Inv-loop μ-loop
+add-at-line c = search needs
 
-cast-t15 : tie.Need-cast-t15 Inv-loop μ-loop
-cast-t15 c = search needs
-
-add-t16 : tie.Need-add-t16 Inv-loop μ-loop
-add-t16 c = search needs
+at-line-requires : tie.Need-at-line-requires Inv-loop μ-loop
+unfolding mostLines
+at-line-requires c κs = search needs
 
 returns : tie.Need-returns Inv-loop μ-loop
 returns c =
-    let at = c .before .before .before .before .loop in
-    let p = c .before .before .before .before .before .pre in
-    columns-stop _ _ _ _ _ (p .1 .0) (p .1 .1) _ (at .inv .1) (omega arith) (c .if1 .taken)
+    let at = c .before .before .before .before .before .loop in
+    let p = c .before .before .before .before .before .before .pre in
+    c .at-line .ensures ∙ columns-stop _ _ _ _ _ (p .1 .0) (p .1 .1) _ (at .inv .1) (omega arith) (c .before .if1 .taken)
 
 add-c : tie.Need-add-c Inv-loop μ-loop
 add-c c = search needs
@@ -70,10 +68,9 @@ same-columns-spec =
     loop-holds
     element-copy-out-if1
     element-copy-out-if1-2
-    cast-t13
-    add-t14
-    cast-t15
-    add-t16
+    cast-at-line
+    add-at-line
+    at-line-requires
     returns
     add-c
     loop-less

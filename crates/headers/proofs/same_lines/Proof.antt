@@ -1,13 +1,13 @@
--- `headers::same_lines` meets its contract. Assumes nothing.
 use Prim.Native.Nat.{_-_, _≤_, ℕ}
 use Rattle.form.proofs.Laws.{is-broken, is-met}
 use Rattle.headers.proofs.Laws.{nine-row}
 use Rattle.headers.specs.Steps.{sameLines}
 use Rattle.lines.specs.Paper.{paper}
-use Rattle.rules.proofs.Disc.{row-length}
+use Rattle.lines.specs.Reading.{sheetOf}
+use Rattle.lines.proofs.Sheets.{row-length}
 use Rattle.rules.proofs.Steps.{none-yet, one-more, stops-here}
-use Rattle.rules.specs.Layout.{sps93}
 use Rattle.rules.specs.Plan.{fine, run}
+use Rattle.rules.specs.Headers.{sameColumns}
 use borrow.Author.Needs.{needs}
 use lib.ListN.{length}
 use mathlib.Core.Path.{_∙_, _≡_, ap}
@@ -16,10 +16,10 @@ use Rattle.headers.proofs.same_lines.Statement.{statement}
 use Rattle.headers.proofs.same_lines.Tie as tie
 
 abbrev Inv-loop : tie.InvT-loop
-Inv-loop i r f n k₀ k = (k ≤ n) × (fine ≡ run (sameLines i r f k))
+Inv-loop how i r f n k₀ k = (k ≤ n) × (fine ≡ run (sameLines i (sheetOf how r) (sheetOf how f) k))
 
 abbrev μ-loop : tie.MeasureT-loop
-μ-loop i r f n k₀ k = n - k
+μ-loop how i r f n k₀ k = n - k
 
 loop-holds : tie.Need-loop-holds Inv-loop μ-loop
 unfolding sameLines
@@ -38,8 +38,8 @@ same-columns-requires c κs =
     let p = c .before .before .before .before .before .before .before .before .pre in (
       omega arith,
       (
-        ap length (c .before .before .before .line-of .ensures) ∙ row-length sps93 (a .r .now) (at .k) (omega arith),
-        ap length (c .before .before .line-of2 .ensures) ∙ row-length sps93 (a .f .now) (at .k) (omega arith),
+        ap length (c .before .before .before .line-of .ensures) ∙ row-length (a .how) (a .r .now) (at .k) (omega arith),
+        ap length (c .before .before .line-of2 .ensures) ∙ row-length (a .how) (a .f .now) (at .k) (omega arith),
       ),
     )
 
@@ -52,8 +52,11 @@ returns c =
     let v = c .before .before in
     let l = v .before .before .before in
     let at = l .before .before .before .loop in
+    let a = l .before .before .before .before .before .before .args in
     ap paper (c .enum-told .given .1)
-    ∙ stops-here _ _ _ _ (omega arith) (at .inv .1) (is-broken _ _ (v .same-columns .ensures) (c .enum-told .given .1) ∙ nine-row _ _ _ _ _ _ (l .before .line-of .ensures) (l .line-of2 .ensures))
+    ∙ stops-here _ _ _ _ (omega arith) (at .inv .1)
+    (is-broken _ (sameColumns (a .i) (at .k) 1 (l .before .line-of .result) (l .line-of2 .result)) (v .same-columns .ensures) (c .enum-told .given .1)
+    ∙ nine-row _ _ _ _ _ _ (l .before .line-of .ensures) (l .line-of2 .ensures))
 
 enum-told-2 : tie.Need-enum-told-2 Inv-loop μ-loop
 enum-told-2 c = search needs
@@ -70,13 +73,18 @@ loop-again c =
     let v = c .before .before in
     let l = v .before .before .before in
     let at = l .before .before .before .loop in
-    (omega arith, one-more _ _ (at .inv .1) (is-met _ _ (v .same-columns .ensures) (c .enum-told2 .given .1) ∙ nine-row _ _ _ _ _ _ (l .before .line-of .ensures) (l .line-of2 .ensures)))
+    let a = l .before .before .before .before .before .before .args in (
+      omega arith,
+      one-more _ _ (at .inv .1)
+          (is-met _ (sameColumns (a .i) (at .k) 1 (l .before .line-of .result) (l .line-of2 .result)) (v .same-columns .ensures) (c .enum-told2 .given .1)
+          ∙ nine-row _ _ _ _ _ _ (l .before .line-of .ensures) (l .line-of2 .ensures)),
+    )
 
 returns-2 : tie.Need-returns-2 Inv-loop μ-loop
 returns-2 c =
     let at = c .before .loop in
     let a = c .before .before .before .before .args in
-    at .inv .1 ∙ ap (λ (k : ℕ). run (sameLines (a .i) (a .r .now) (a .f .now) k)) (omega arith)
+    at .inv .1 ∙ ap (λ (k : ℕ). run (sameLines (a .i) (sheetOf (a .how) (a .r .now)) (sheetOf (a .how) (a .f .now)) k)) (omega arith)
 
 pub same-lines-spec : {M : Type 1} → statement M
 same-lines-spec =
