@@ -1,0 +1,10 @@
+pub mod Halves
+pub mod Compared
+pub mod Lines
+pub mod Passed
+pub mod Pairs
+pub mod Named
+pub mod Points
+pub mod Records
+pub mod Fit
+pub mod One

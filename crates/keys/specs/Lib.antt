@@ -1,0 +1,4 @@
+pub mod Compare
+pub mod Keys
+pub mod Keyed
+pub mod Held
