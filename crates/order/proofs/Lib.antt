@@ -1,7 +1,8 @@
-pub mod Known
-pub mod Compare
-pub mod Last
-pub mod Shots
-pub mod Mates
-pub mod Walk
+pub mod Times
+pub mod Ranks
+pub mod Merge
+pub mod Places
+pub mod Rising
+pub mod Taken
+pub mod Firsts
 pub mod One

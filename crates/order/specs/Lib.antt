@@ -1,3 +1,3 @@
-pub mod Steps
-pub mod Held
-pub mod Last
+pub mod Sorted
+pub mod Listed
+pub mod Repeat
