@@ -1,0 +1,5 @@
+pub mod Last
+pub mod Above
+pub mod Stamps
+pub mod Again
+pub mod One
