@@ -1,0 +1,98 @@
+-- Whether a line holds a shot, or names one, by its key.
+--   other-key, own-key  = what the code finds of a key, and of a shot
+--   held-at             = the same, as the code has the key
+--   key-shot            = a line of S with the key of relation line k's shot holds that shot
+use Prim.Native.Nat.{ℕ, _≤_, _<_}
+use native.Mathlib.Omega.{arith}
+use lib.Dec.{eqb}
+use borrow.Author.Tests.{eqb-true, eq-eqb}
+use mathlib.Core.Path.{_≡_, refl, sym, ap, _∙_}
+use mathlib.Core.Bool.{Bool, true, false, _&&_}
+use mathlib.Core.List.{List}
+use Rattle.rules.specs.Layout.{Layout, sps93}
+use Rattle.rules.specs.Sheet.{Sheet, mostLines}
+use Rattle.rules.specs.Lines.{isData, isPoint}
+use Rattle.rules.specs.Points.{pointAt, isAt}
+use Rattle.rules.specs.Relations.{relationAt}
+use Rattle.rules.specs.Order.{isPointAt}
+use Rattle.rules.proofs.Tests.{agree}
+use Rattle.lines.specs.Reading.{sheetOf}
+use Rattle.lines.specs.declared.Reading.{Reading}
+use Rattle.lines.proofs.Sheets.{layout-is}
+use Rattle.form.specs.Known.{Known}
+use Rattle.keys.specs.Held.{RelationLine, KnownShots}
+use Rattle.keys.specs.Compare.{sameKey}
+use Rattle.keys.specs.Keys.{shotKey}
+use Rattle.keys.specs.Keyed.{takesAt, keyAt}
+use Rattle.keys.specs.declared.By.the-variants.{Points}
+use Rattle.keys.specs.declared.Key.{Key}
+use Rattle.keys.proofs.Lines.{takes-point}
+use Rattle.keys.proofs.Points.{shot-is}
+use Rattle.shots.specs.Places.{isShot, holdsKey, namesKey}
+
+module _ (s : Sheet) (y : Key) (j : ℕ) (t : Bool) (e : t ≡ sameKey (keyAt Points s j) y) where
+  pub other-key : t ≡ false → false ≡ holdsKey s y j
+  unfolding holdsKey
+  other-key n = rw (← e, n)
+
+  pub own-key : t ≡ true → (b : Bool) → b ≡ takesAt Points s j → b ≡ holdsKey s y j
+  unfolding holdsKey
+  own-key z b f = rw (← e, z) f
+
+and-no : (a : Bool) → (a && false) ≡ false
+and-no true = refl
+and-no false = refl
+
+and-yes : (a : Bool) → (a && true) ≡ a
+and-yes true = refl
+and-yes false = refl
+
+module _ (s x : Sheet) (ws : Known 2 s) (wx : Known 3 x) (k : ℕ) (h : k < x .count) (d : isData x k ≡ true) (j : ℕ) (g : j < s .count) where
+  abbrev sameOne : Bool
+  sameOne = sameKey (keyAt Points s j) (shotKey (x .layout) (x .row k))
+
+  pub key-shot : holdsKey s (shotKey (x .layout) (x .row k)) j ≡ isShot s x k j
+  unfolding holdsKey isShot isPointAt
+  key-shot = rw (takes-point s j g) (go (isPoint s j) refl)
+    where
+      go : (t : Bool) → isPoint s j ≡ t
+          → (sameOne && t) ≡ (t && isAt (relationAt x k .source) (relationAt x k .shot) (relationAt x k .shotIndex) (pointAt s j))
+      go true p = and-yes sameOne ∙ shot-is 2 s ws two j g p x wx k h d
+        where
+          two : _≡_ {A = ℕ} 2 3 → ⊥
+          two e = absurd (omega arith)
+      go false p = and-no sameOne
+
+pub held-at : (how : Reading) (s x : List ℕ) → Known 2 (sheetOf how s) → Known 3 (sheetOf how x) → (k : ℕ) → RelationLine (sheetOf how x) k
+    → (y : Key) → y ≡ shotKey sps93 (sheetOf how x .row k) → (j : ℕ) → j < sheetOf how s .count
+    → holdsKey (sheetOf how s) y j ≡ isShot (sheetOf how s) (sheetOf how x) k j
+held-at how s x ws wx k r y e j g =
+    ap (λ (y : Key). holdsKey (sheetOf how s) y j)
+    (e ∙ ap (λ (L : Layout). shotKey L (sheetOf how x .row k)) (sym (layout-is how x)))
+    ∙ key-shot (sheetOf how s) (sheetOf how x) ws wx k (r .0) (r .1) j g
+
+-- the column of 13 and 14, and that a line can be numbered
+pub source-column : (how : Reading) (x : List ℕ) → 14 ≡ sheetOf how x .layout .source .first
+unfolding sps93
+source-column how x = ap (λ (L : Layout). L .source .first) (sym (layout-is how x))
+
+pub line-small : {n : ℕ} (k : ℕ) → n ≤ mostLines → k < n → k < 4294967295
+unfolding mostLines
+line-small k h g = omega arith
+
+sym-same : (a b : Key) → sameKey a b ≡ sameKey b a
+unfolding sameKey
+sym-same a b = rw (sym-eqb (a .first) (b .first), sym-eqb (a .second) (b .second), sym-eqb (a .third) (b .third))
+  where
+    sym-eqb : (m n : ℕ) → eqb m n ≡ eqb n m
+    sym-eqb m n = agree _ _ (λ t. eq-eqb n m (sym (eqb-true m n t))) (λ t. eq-eqb m n (sym (eqb-true n m t)))
+
+-- a relation line names the shot in line k exactly where that is its shot's line
+module _ (s x : Sheet) (ws : KnownShots s) (wx : Known 3 x) (k : ℕ) (h : k < s .count) (p : isPoint s k ≡ true) where
+  pub names-shot : (i : ℕ) → i < x .count → isData x i ≡ true → namesKey x (keyAt Points s k) i ≡ isShot s x i k
+  unfolding namesKey isShot isPointAt
+  names-shot i g d =
+      sym-same (shotKey (x .layout) (x .row i)) (keyAt Points s k) ∙ shot-is 2 s (ws .0) two k h p x wx i g d ∙ (rw p)
+    where
+      two : _≡_ {A = ℕ} 2 3 → ⊥
+      two e = absurd (omega arith)

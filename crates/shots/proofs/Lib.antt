@@ -1,0 +1,4 @@
+pub mod Places
+pub mod Held
+pub mod Named
+pub mod One
