@@ -1,0 +1,9 @@
+pub mod Values
+pub mod Spans
+pub mod Marking
+pub mod Lines
+pub mod Keeping
+pub mod Pairs
+pub mod Rows
+pub mod Decided
+pub mod One
