@@ -1,0 +1,4 @@
+pub mod Parts
+pub mod Eighteen
+pub mod Walked
+pub mod One
