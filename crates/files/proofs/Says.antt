@@ -9,8 +9,9 @@ use borrow.Author.Tests.{le-leb}
 use Rattle.rules.specs.Places.{pick}
 use Rattle.rules.specs.Disc.{file}
 use Rattle.rules.specs.Check.{check}
+use Rattle.lines.specs.Reading.{onDisc, sheetOf}
 use Rattle.sets.specs.declared.Answer.{Answer}
-use Rattle.sets.specs.Paper.{paper}
+use Rattle.sets.specs.Paper.{paper, checkOn}
 use Rattle.words.specs.Words.{line}
 use Rattle.words.specs.Buffer.{over}
 use Rattle.files.specs.Report.{_orElse_}
@@ -38,7 +39,9 @@ says-next [] {g} {o} e z s = record { value = s .value; written = s .written ∙
 says-next (b ∷ f) e z s = absurd (omega (arith, e .value))
 
 pub says-verdict :
-    (v : Answer) (p q t p′ q′ t′ o o′ : List ℕ) (n : ℕ) → paper v ≡ check (file p) (file q) (file t) → p ≡ p′ → q ≡ q′ → t ≡ t′
+    (v : Answer) (p q t p′ q′ t′ o o′ : List ℕ) (n : ℕ) → paper v ≡ checkOn onDisc p q t → p ≡ p′ → q ≡ q′ → t ≡ t′
     → Says (line (paper v)) o o′ n → Says (line (check (file p′) (file q′) (file t′))) o o′ n
+unfolding sheetOf
 says-verdict v p q t p′ q′ t′ o o′ n e a b d s =
-    rw (← a, ← b, ← d, ← e) s
+    let f : paper v ≡ check (file p) (file q) (file t) = e in
+    rw (← a, ← b, ← d, ← f) s

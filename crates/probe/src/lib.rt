@@ -67,7 +67,7 @@ fn told(v: Verdict) -> u64
 // What a line of file i is refused for: 5, and a relation line that obeys it 6.
 #[no_mangle]
 pub extern "C" fn probe_line(line: &[u8; 80], i: u8) -> u64
-    ensures verdict { λ n. ⌜ n ≡ toldOf (run (fieldsOf i 0 (now (line .entry)))) ⌝ }
+    ensures verdict { λ n. ⌜ n ≡ toldOf (run (fieldsOf sps93 i 0 (now (line .entry)))) ⌝ }
 {
     told(form::fields_fit(line, i, 0))
 }
@@ -77,7 +77,7 @@ pub extern "C" fn probe_line(line: &[u8; 80], i: u8) -> u64
 pub extern "C" fn probe_form(f: &[u8], i: u8) -> u64
     ensures verdict { λ n. ⌜ n ≡ toldOf (run (formOf i (file (now (f .entry))))) ⌝ }
 {
-    told(form::form(f, i))
+    told(form::form(lines::disc(), f, i))
 }
 
 // The values of a point line.

@@ -15,6 +15,7 @@ use Rattle.outcome.specs.One.{One}
 use Rattle.rules.specs.Plan.{Refusal, Verdict, fine, refused, №}
 use Rattle.rules.specs.Sheet.{Sheet}
 use Rattle.rules.specs.Disc.{file}
+use Rattle.lines.specs.Reading.{sheetOf}
 use Rattle.rules.specs.Check.{accepted, refusal, rules, verdict, answer, points, relations, allTraces, check as checkOf}
 use Rattle.rules.proofs.Breach.{Broken}
 use Rattle.rules.proofs.Meets.{Meets, verdict-meets, verdict-refuses}
@@ -71,4 +72,5 @@ module _ (r s x : Sheet) where
 
 pub demand-2 : (κs : Lfts 3) (a : ArgsD check.signature κs) (v : ResD check.signature κs) (w : AtExit check.ended κs)
     → check-reads.Post κs a v w → Judged (file (now (a .0))) (file (now (a .1 .0))) (file (now (a .1 .1 .0))) v
+unfolding sheetOf
 demand-2 κs a v w p = judged (file (now (a .0))) (file (now (a .1 .0))) (file (now (a .1 .1 .0))) v p

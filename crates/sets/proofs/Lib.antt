@@ -1,4 +1,5 @@
 pub mod Answers
+pub mod Across
 pub mod Tally
 pub mod One
 pub mod Demands

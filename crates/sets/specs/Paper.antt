@@ -1,14 +1,33 @@
--- The code's answer as the paper's: its number and values for each case; and the part of the order that looks across the files.
---   paper a         = the answer of the paper
---   across r s x    = 10 over R, 11 and 12 over S, 13 to 19 line by line over X, last 15
---   counts r s x    = the answer that accepts, with the counts of the set
-use Prim.Native.Nat.{ℕ}
+-- The code's answer as the paper's: its number and values for each case; and the parts of the order that the code looks at one by one.
+--   paper a            = the answer of the paper
+--   checkOn how r s x  = the answer to the set check of three files that are read in one way
+--   formsOf r s x      = the form of R, then S, then X
+--   pointsOf r s       = 10 over R, then 11 and 12 over S
+--   across r s x       = those, then 13 to 19 line by line over X, last 15
+--   counts r s x       = the answer that accepts, with the counts of the set
+--   answeredAcross     = that answer, after the rules across the files
+--   tracesAt x k       = the traces of line k, where it is a relation line
+--   KnownSet r s x     = the three files are well formed
+--   Ordered r s x      = and 10, 11 and 12 are met
+--   Arrays o p         = both arrays have a place for each line
+use Prim.Native.Nat.{ℕ, _≤_}
 use mathlib.Core.List.{List}
-use Rattle.rules.specs.Plan.{№, Plan, _before_, upTo}
-use Rattle.rules.specs.Disc.{file}
-use Rattle.rules.specs.Order.{rule10, rule15}
-use Rattle.rules.specs.Check.{Answer as PaperAnswer, accepted, refusal, relationFits, points, relations, allTraces}
-use Rattle.order.specs.Steps.{shotFits}
+use lib.ListN.{length}
+use Rattle.rules.specs.Places.{pick}
+use Rattle.rules.specs.Plan.{№, Plan, fileR, fileS, fileX, _before_, upTo, run}
+use Rattle.rules.specs.Sheet.{Sheet, mostLines}
+use Rattle.rules.specs.Lines.{isData}
+use Rattle.rules.specs.Relations.{reachAt}
+use Rattle.rules.specs.Cover.{traces}
+use Rattle.rules.specs.Form.{form}
+use Rattle.rules.specs.Order.{rule10}
+use Rattle.rules.specs.Check.{Answer as PaperAnswer, accepted, refusal, points, relations, allTraces, answer, check}
+use Rattle.lines.specs.Reading.{sheetOf}
+use Rattle.lines.specs.declared.Reading.{Reading}
+use Rattle.form.specs.Known.{Known}
+use Rattle.keys.specs.Held.{shotFits, KnownReceivers, KnownShots}
+use Rattle.shots.specs.Places.{allNamed}
+use Rattle.relations.specs.Walk.{allRelate}
 use Rattle.sets.specs.declared.Answer.{Answer}
 use Rattle.sets.specs.declared.Answer.the-variants.{Accepted, Refused}
 
@@ -16,12 +35,36 @@ abbrev pub paper : Answer → PaperAnswer
 paper (Accepted a b c d) = accepted a b c d
 paper (Refused n f l c) = refusal (№ n f l c)
 
-unfoldable pub across : List ℕ → List ℕ → List ℕ → Plan
-across r s x =
-    upTo (file r .count) (rule10 (file r))
-    before upTo (file s .count) (shotFits (file s))
-    before upTo (file x .count) (relationFits (file r) (file s) (file x))
-    before upTo (file s .count) (rule15 (file s) (file x))
+abbrev pub checkOn : Reading → List ℕ → List ℕ → List ℕ → PaperAnswer
+checkOn how r s x = check (sheetOf how r) (sheetOf how s) (sheetOf how x)
 
-unfoldable pub counts : List ℕ → List ℕ → List ℕ → PaperAnswer
-counts r s x = accepted (points (file r)) (points (file s)) (relations (file x)) (allTraces (file x))
+abbrev pub formsOf : Sheet → Sheet → Sheet → Plan
+formsOf r s x = form fileR r before form fileS s before form fileX x
+
+abbrev pub pointsOf : Sheet → Sheet → Plan
+pointsOf r s = upTo (r .count) (rule10 r) before upTo (s .count) (shotFits s)
+
+unfoldable pub across : Sheet → Sheet → Sheet → Plan
+across r s x = upTo (r .count) (rule10 r) before upTo (s .count) (shotFits s) before allRelate r s x before allNamed s x
+
+unfoldable pub counts : Sheet → Sheet → Sheet → PaperAnswer
+counts r s x = accepted (points r) (points s) (relations x) (allTraces x)
+
+abbrev pub answeredAcross : Sheet → Sheet → Sheet → PaperAnswer
+answeredAcross r s x = answer (run (across r s x)) (counts r s x)
+
+abbrev pub tracesAt : Sheet → ℕ → ℕ
+tracesAt x k = pick (isData x k) (traces (reachAt x k)) 0
+
+pub record KnownSet (r s x : Sheet) : Type 0 where
+  pub receivers : Known 1 r
+  pub shots : Known 2 s
+  pub relations : Known 3 x
+
+pub record Ordered (r s x : Sheet) : Type 0 where
+  pub receivers : KnownReceivers r
+  pub shots : KnownShots s
+  pub relations : Known 3 x
+
+abbrev pub Arrays : List ℕ → List ℕ → Type 0
+Arrays o p = (mostLines ≤ length o) × (mostLines ≤ length p)

@@ -1,24 +1,34 @@
 // The counts of an accepted set: receivers, shots, relation lines and traces.
 ghost use mathlib.Core.Path.{_≡_};
-ghost use Prim.Native.Nat.{_<_};
-ghost use Rattle.rules.specs.Places.{pick};
-ghost use Rattle.rules.specs.Disc.{file};
-ghost use Rattle.rules.specs.Lines.{isData};
-ghost use Rattle.rules.specs.Relations.{reachAt};
+ghost use Prim.Native.Nat.{_≤_, _<_};
+ghost use Rattle.rules.specs.Sheet.{mostLines};
+ghost use Rattle.rules.specs.Layout.{sps93};
+ghost use Rattle.rules.specs.Relations.{reach};
 ghost use Rattle.rules.specs.Cover.{traces as tracesOf};
 ghost use Rattle.rules.specs.Check.{points as pointsOf, relations as relationsOf, allTraces};
-ghost use Rattle.order.specs.Held.{Known, HoldsPoints, HoldsRecords};
+ghost use Rattle.lines.specs.Reading.{sheetOf};
+ghost use Rattle.form.specs.Known.{Known};
+ghost use Rattle.sets.specs.Paper.{tracesAt};
+use keys::By;
+use keys::Keyed;
+use lines::Reading;
+use records::fits;
+use records::relation;
 
 // How many receivers or shots a file has.
-pub fn points(f: &[u8], a: &[u64]) -> u64
-    requires { ⌜ (file (now f) .count < 10000) × HoldsPoints (now f) (now a) ⌝ }
-    ensures value { λ m. ⌜ m ≡ pointsOf (file (now (f .entry))) ⌝ }
+pub fn points(how: Reading, f: &[u8]) -> u64
+    requires { ⌜ sheetOf how (now f) .count ≤ mostLines ⌝ }
+    ensures value { λ m. ⌜ m ≡ pointsOf (sheetOf how (now (f .entry))) ⌝ }
 {
-    let n = lines::line_count(f);
+    let z = Keyed {
+        how,
+        by: By::Points,
+    };
+    let n = lines::line_count(how, f);
     let mut m: u64 = 0;
     let mut k = 0;
     while k < n {
-        if a[3 * k + 2] != 0 {
+        if keys::takes(z, f, k) {
             m += 1;
             k += 1;
         } else {
@@ -29,15 +39,19 @@ pub fn points(f: &[u8], a: &[u64]) -> u64
 }
 
 // How many relation lines X has.
-pub fn relations(x: &[u8], c: &[u64]) -> u64
-    requires { ⌜ (file (now x) .count < 10000) × HoldsRecords (now x) (now c) ⌝ }
-    ensures value { λ m. ⌜ m ≡ relationsOf (file (now (x .entry))) ⌝ }
+pub fn relations(how: Reading, x: &[u8]) -> u64
+    requires { ⌜ sheetOf how (now x) .count ≤ mostLines ⌝ }
+    ensures value { λ m. ⌜ m ≡ relationsOf (sheetOf how (now (x .entry))) ⌝ }
 {
-    let n = lines::line_count(x);
+    let z = Keyed {
+        how,
+        by: By::Records,
+    };
+    let n = lines::line_count(how, x);
     let mut m: u64 = 0;
     let mut k = 0;
     while k < n {
-        if c[k] != 0 {
+        if keys::takes(z, x, k) {
             m += 1;
             k += 1;
         } else {
@@ -47,29 +61,41 @@ pub fn relations(x: &[u8], c: &[u64]) -> u64
     m
 }
 
-// The traces of line k, where it is a relation line.
-fn line_traces(x: &[u8], c: &[u64], k: usize) -> u64
-    requires { ⌜ (Known 3 (now x) × HoldsRecords (now x) (now c)) × (k < file (now x) .count) ⌝ }
-    ensures value { λ n. ⌜ n ≡ pick (isData (file (now (x .entry))) k) (tracesOf (reachAt (file (now (x .entry))) k)) 0 ⌝ }
-    ensures small { λ n. ⌜ n < 10001 ⌝ }
+// The traces of a relation line; only its channel numbers are read.
+fn traces_of(l: &[u8; 80]) -> u64
+    ensures value { λ n. ⌜ n ≡ tracesOf (reach sps93 (now (l .entry))) ⌝ }
 {
-    if c[k] == 0 {
+    let from = relation::number_at(l, 39, 42) as u64;
+    let upto = relation::number_at(l, 43, 46) as u64;
+    if upto < from {
         return 0;
     }
-    let n = rows::relation_number(x, k, 8);
-    n % 65536 + 1 - n / 65536
+    upto + 1 - from
+}
+
+// The traces of line k, where it is a relation line.
+fn line_traces(how: Reading, x: &[u8], k: usize) -> u64
+    requires { ⌜ Known 3 (sheetOf how (now x)) × (k < sheetOf how (now x) .count) ⌝ }
+    ensures value { λ n. ⌜ n ≡ tracesAt (sheetOf how (now (x .entry))) k ⌝ }
+    ensures small { λ n. ⌜ n < 4294967296 ⌝ }
+{
+    let l = lines::line_of(how, x, k);
+    if fits::is_header(&l) {
+        return 0;
+    }
+    traces_of(&l)
 }
 
 // The traces of all relation lines.
-pub fn traces(x: &[u8], c: &[u64]) -> u64
-    requires { ⌜ Known 3 (now x) × HoldsRecords (now x) (now c) ⌝ }
-    ensures value { λ m. ⌜ m ≡ allTraces (file (now (x .entry))) ⌝ }
+pub fn traces(how: Reading, x: &[u8]) -> u64
+    requires { ⌜ Known 3 (sheetOf how (now x)) ⌝ }
+    ensures value { λ m. ⌜ m ≡ allTraces (sheetOf how (now (x .entry))) ⌝ }
 {
-    let n = lines::line_count(x);
+    let n = lines::line_count(how, x);
     let mut m: u64 = 0;
     let mut k = 0;
     while k < n {
-        m += line_traces(x, c, k);
+        m += line_traces(how, x, k);
         k += 1;
     }
     m

@@ -1,19 +1,16 @@
 // The set check: the form of R, S and X, the header rules, then the rules across the files, and the counts of an accepted set.
-// The numbers of the lines stand in arrays of this call, 0.66 MB of its stack; nothing is allocated.
+// Two arrays of line numbers are its own, 80 KB of its stack; nothing is allocated.
 ghost use mathlib.Core.Path.{_≡_};
-ghost use lib.ListN.{length};
-ghost use Rattle.rules.specs.Plan.{run, upTo, _before_};
-ghost use Rattle.rules.specs.Disc.{file};
-ghost use Rattle.rules.specs.Form.{form as formOf};
-ghost use Rattle.rules.specs.Check.{answer as answerOf, check as checkOf, points as pointsOf};
+ghost use Rattle.rules.specs.Plan.{run};
 ghost use Rattle.lines.specs.Paper.{paper as verdictOf};
-ghost use Rattle.order.specs.Steps.{shotFits};
-ghost use Rattle.order.specs.Held.{Known, KnownPoints, KnownRelations, HoldsPlaces};
-ghost use Rattle.sets.specs.Paper.{paper, across as acrossOf, counts as countsOf};
+ghost use Rattle.lines.specs.Reading.{onDisc, sheetOf};
+ghost use Rattle.form.specs.Known.{Known};
+ghost use Rattle.relations.specs.Walk.{allRelate};
+ghost use Rattle.sets.specs.Paper.{paper, checkOn, formsOf, pointsOf, across as acrossOf, counts as countsOf, answeredAcross, KnownSet, Ordered, Arrays};
+use keys::By;
+use keys::Keyed;
+use lines::Reading;
 use lines::Verdict;
-use order::points;
-use order::relations;
-use rows::Rows;
 
 mod counts;
 
@@ -25,119 +22,141 @@ pub enum Answer {
 }
 
 // The form of R, then S, then X.
-fn forms(r: &[u8], s: &[u8], x: &[u8]) -> Verdict
-    ensures verdict { λ v. ⌜ verdictOf v ≡ run (formOf 1 (file (now (r .entry))) before formOf 2 (file (now (s .entry))) before formOf 3 (file (now (x .entry)))) ⌝ }
+fn forms(how: Reading, r: &[u8], s: &[u8], x: &[u8]) -> Verdict
+    ensures verdict { λ v. ⌜ verdictOf v ≡ run (formsOf (sheetOf how (now (r .entry))) (sheetOf how (now (s .entry))) (sheetOf how (now (x .entry)))) ⌝ }
 {
-    let v = form::form(r, 1);
+    let v = form::form(how, r, 1);
     if let Verdict::Refused(_, _, _, _) = v {
         return v;
     }
-    let u = form::form(s, 2);
+    let u = form::form(how, s, 2);
     if let Verdict::Refused(_, _, _, _) = u {
         return u;
     }
-    form::form(x, 3)
+    form::form(how, x, 3)
 }
 
-// The rules across the files, in their order: a holds the numbers of R, b, c and p those of X, and u is the verdict of 11 and 12.
-fn verdict_across(
+// 13, 14, 16 to 19: relation lines by record, receivers by name, index and number, one after the other in the same arrays.
+fn relations_across(
+    how: Reading,
     r: &[u8],
-    a: &[u64],
     s: &[u8],
-    u: Verdict,
     x: &[u8],
-    b: &[u64],
-    c: &[u64],
-    p: &[u16],
+    o: &mut [u32],
+    p: &mut [u32],
 ) -> Verdict
-    requires { ⌜ (KnownPoints 1 (now r) (now a) × (Known 2 (now s) × (verdictOf u ≡ run (upTo (file (now s) .count) (shotFits (file (now s))))))) × (KnownRelations (now x) (now b) (now c) × HoldsPlaces (now s) (now x) (now p)) ⌝ }
-    ensures verdict { λ v. ⌜ verdictOf v ≡ run (acrossOf (now (r .entry)) (now (s .entry)) (now (x .entry))) ⌝ }
+    requires { ⌜ Ordered (sheetOf how (now r)) (sheetOf how (now s)) (sheetOf how (now x)) × Arrays (now o) (now p) ⌝ }
+    ensures verdict { λ v. ⌜ verdictOf v ≡ run (allRelate (sheetOf how (now (r .entry))) (sheetOf how (now (s .entry))) (sheetOf how (now (x .entry)))) ⌝ }
 {
-    let v = points::receivers_fit(r, a);
+    let apart = order::first_repeat(
+        Keyed {
+            how,
+            by: By::Records,
+        },
+        x,
+        o,
+        p,
+    );
+    let m = order::in_order(
+        Keyed {
+            how,
+            by: By::Receivers,
+        },
+        r,
+        o,
+        p,
+    );
+    relations::relations_fit(how, r, &o[..m], s, x, apart, p)
+}
+
+// 10 over R, then 11 and 12 over S.
+fn points_across(how: Reading, r: &[u8], s: &[u8], o: &mut [u32], p: &mut [u32]) -> Verdict
+    requires { ⌜ (Known 1 (sheetOf how (now r)) × Known 2 (sheetOf how (now s))) × Arrays (now o) (now p) ⌝ }
+    ensures verdict { λ v. ⌜ verdictOf v ≡ run (pointsOf (sheetOf how (now (r .entry))) (sheetOf how (now (s .entry)))) ⌝ }
+{
+    let v = points::receivers::receivers_fit(how, r);
     if let Verdict::Refused(_, _, _, _) = v {
         return v;
     }
+    let again = order::first_repeat(
+        Keyed {
+            how,
+            by: By::Points,
+        },
+        s,
+        o,
+        p,
+    );
+    points::shots::shots_fit(how, s, again)
+}
+
+// The rules across the files, in their order.
+fn verdict_across(
+    how: Reading,
+    r: &[u8],
+    s: &[u8],
+    x: &[u8],
+    o: &mut [u32],
+    p: &mut [u32],
+) -> Verdict
+    requires { ⌜ KnownSet (sheetOf how (now r)) (sheetOf how (now s)) (sheetOf how (now x)) × Arrays (now o) (now p) ⌝ }
+    ensures verdict { λ v. ⌜ verdictOf v ≡ run (acrossOf (sheetOf how (now (r .entry))) (sheetOf how (now (s .entry))) (sheetOf how (now (x .entry)))) ⌝ }
+{
+    let v = points_across(how, r, s, o, p);
+    if let Verdict::Refused(_, _, _, _) = v {
+        return v;
+    }
+    let u = relations_across(how, r, s, x, o, p);
     if let Verdict::Refused(_, _, _, _) = u {
         return u;
     }
-    let w = relations::relations_fit(r, a, s, x, b, c, p);
-    if let Verdict::Refused(_, _, _, _) = w {
-        return w;
-    }
-    relations::shots_named(s, x, p)
+    shots::shots_named(how, s, x)
 }
 
-// The answer across the files, with so many shots.
-fn answer_across(
-    r: &[u8],
-    a: &[u64],
-    s: &[u8],
-    u: Verdict,
-    shots: u64,
-    x: &[u8],
-    b: &[u64],
-    c: &[u64],
-    p: &[u16],
-) -> Answer
-    requires { ⌜ ((KnownPoints 1 (now r) (now a) × (Known 2 (now s) × (verdictOf u ≡ run (upTo (file (now s) .count) (shotFits (file (now s))))))) × (KnownRelations (now x) (now b) (now c) × HoldsPlaces (now s) (now x) (now p))) × (shots ≡ pointsOf (file (now s))) ⌝ }
-    ensures answer { λ v. ⌜ paper v ≡ answerOf (run (acrossOf (now (r .entry)) (now (s .entry)) (now (x .entry)))) (countsOf (now (r .entry)) (now (s .entry)) (now (x .entry))) ⌝ }
+// The counts of the set.
+fn counted(how: Reading, r: &[u8], s: &[u8], x: &[u8]) -> Answer
+    requires { ⌜ KnownSet (sheetOf how (now r)) (sheetOf how (now s)) (sheetOf how (now x)) ⌝ }
+    ensures answer { λ a. ⌜ paper a ≡ countsOf (sheetOf how (now (r .entry))) (sheetOf how (now (s .entry))) (sheetOf how (now (x .entry))) ⌝ }
 {
-    let v = verdict_across(r, a, s, u, x, b, c, p);
-    if let Verdict::Refused(n, i, k, e) = v {
-        return Answer::Refused(n, i, k, e);
-    }
-    let receivers = counts::points(r, a);
-    let lines = counts::relations(x, c);
-    let traces = counts::traces(x, c);
+    let receivers = counts::points(how, r);
+    let shots = counts::points(how, s);
+    let lines = counts::relations(how, x);
+    let traces = counts::traces(how, x);
     Answer::Accepted(receivers, shots, lines, traces)
 }
 
-// The same, from the text: a takes the numbers of S, then those of R.
-fn read(
-    r: &[u8],
-    s: &[u8],
-    x: &[u8],
-    a: &mut [u64],
-    b: &mut [u64],
-    c: &mut [u64],
-    p: &mut [u16],
-) -> Answer
-    requires { ⌜ (Known 1 (now r) × (Known 2 (now s) × Known 3 (now x))) × ((length (now a) ≡ 29997) × ((length (now b) ≡ 39996) × ((length (now c) ≡ 9999) × (length (now p) ≡ 9999)))) ⌝ }
-    ensures answer { λ v. ⌜ paper v ≡ answerOf (run (acrossOf (now (r .entry)) (now (s .entry)) (now (x .entry)))) (countsOf (now (r .entry)) (now (s .entry)) (now (x .entry))) ⌝ }
+// The answer across the files.
+fn answer_across(how: Reading, r: &[u8], s: &[u8], x: &[u8]) -> Answer
+    requires { ⌜ KnownSet (sheetOf how (now r)) (sheetOf how (now s)) (sheetOf how (now x)) ⌝ }
+    ensures answer { λ a. ⌜ paper a ≡ answeredAcross (sheetOf how (now (r .entry))) (sheetOf how (now (s .entry))) (sheetOf how (now (x .entry))) ⌝ }
 {
-    rows::write(Rows::Points, s, a);
-    rows::write(Rows::Records, x, c);
-    relations::write_places(s, a, x, c, p);
-    let u = points::shots_fit(s, a);
-    let shots = counts::points(s, a);
-    rows::write(Rows::Points, r, a);
-    rows::write(Rows::Reaches, x, b);
-    answer_across(r, a, s, u, shots, x, b, c, p)
+    let mut o = [0u32; lines::MOST_LINES];
+    let mut p = [0u32; lines::MOST_LINES];
+    let v = verdict_across(how, r, s, x, &mut o, &mut p);
+    if let Verdict::Refused(n, f, l, c) = v {
+        return Answer::Refused(n, f, l, c);
+    }
+    counted(how, r, s, x)
 }
 
-// The same, with its arrays.
-fn across(r: &[u8], s: &[u8], x: &[u8]) -> Answer
-    requires { ⌜ Known 1 (now r) × (Known 2 (now s) × Known 3 (now x)) ⌝ }
-    ensures answer { λ v. ⌜ paper v ≡ answerOf (run (acrossOf (now (r .entry)) (now (s .entry)) (now (x .entry)))) (countsOf (now (r .entry)) (now (s .entry)) (now (x .entry))) ⌝ }
+// The set check of three files that are read in one way.
+pub fn check_on(how: Reading, r: &[u8], s: &[u8], x: &[u8]) -> Answer
+    ensures answer { λ a. ⌜ paper a ≡ checkOn how (now (r .entry)) (now (s .entry)) (now (x .entry)) ⌝ }
 {
-    let mut a = [0u64; 29997];
-    let mut b = [0u64; 39996];
-    let mut c = [0u64; 9999];
-    let mut p = [0u16; 9999];
-    read(r, s, x, &mut a, &mut b, &mut c, &mut p)
+    let v = forms(how, r, s, x);
+    if let Verdict::Refused(n, i, k, c) = v {
+        return Answer::Refused(n, i, k, c);
+    }
+    let u = headers::headers_fit(how, r, s, x);
+    if let Verdict::Refused(n, i, k, c) = u {
+        return Answer::Refused(n, i, k, c);
+    }
+    answer_across(how, r, s, x)
 }
 
 // Checks a set of three files of any length and content.
 pub fn check(r: &[u8], s: &[u8], x: &[u8]) -> Answer
-    ensures answer { λ v. ⌜ paper v ≡ checkOf (file (now (r .entry))) (file (now (s .entry))) (file (now (x .entry))) ⌝ }
+    ensures answer { λ a. ⌜ paper a ≡ checkOn onDisc (now (r .entry)) (now (s .entry)) (now (x .entry)) ⌝ }
 {
-    let v = forms(r, s, x);
-    if let Verdict::Refused(n, f, l, e) = v {
-        return Answer::Refused(n, f, l, e);
-    }
-    let u = headers::headers_fit(r, s, x);
-    if let Verdict::Refused(n, f, l, e) = u {
-        return Answer::Refused(n, f, l, e);
-    }
-    across(r, s, x)
+    check_on(lines::disc(), r, s, x)
 }

@@ -1,22 +1,22 @@
 -- `sets::counts::points` meets its contract. Assumes nothing.
 use Prim.Native.Nat.{_-_, _<_, _≤_, ℕ}
-use Rattle.rules.proofs.Steps.{count-no, count-none, count-yes}
+use mathlib.Core.Path.{_∙_, _≡_, ap, sym}
 use Rattle.rules.specs.Check.{points}
-use Rattle.rules.specs.Disc.{file}
 use Rattle.rules.specs.Lines.{isPoint}
 use Rattle.rules.specs.Places.{count}
-use Rattle.order.proofs.Last.{point-off, point-on}
+use Rattle.rules.proofs.Steps.{count-no, count-none, count-yes}
+use Rattle.lines.specs.Reading.{sheetOf}
+use Rattle.keys.proofs.Lines.{takes-point}
 use borrow.Author.Needs.{needs}
-use mathlib.Core.Path.{_∙_, _≡_, ap, sym}
 use native.Mathlib.Omega.{arith}
 use Rattle.sets.proofs.counts.points.Statement.{statement}
 use Rattle.sets.proofs.counts.points.Tie as tie
 
 abbrev Inv-loop : tie.InvT-loop
-Inv-loop f a n m₀ k₀ m k = (k ≤ n) × ((m ≤ k) × (m ≡ count k (isPoint (file f))))
+Inv-loop f z n m₀ k₀ m k = (k ≤ n) × ((m ≤ k) × (m ≡ count k (isPoint (sheetOf (z .how) f))))
 
 abbrev μ-loop : tie.MeasureT-loop
-μ-loop f a n m₀ k₀ m k = n - k
+μ-loop f z n m₀ k₀ m k = n - k
 
 line-count-requires : tie.Need-line-count-requires Inv-loop μ-loop
 line-count-requires c κs = search needs
@@ -24,17 +24,8 @@ line-count-requires c κs = search needs
 loop-holds : tie.Need-loop-holds Inv-loop μ-loop
 loop-holds c = (omega arith, (omega arith, sym (count-none _)))
 
-mul-if1 : tie.Need-mul-if1 Inv-loop μ-loop
-mul-if1 c = search needs
-
-add-if1 : tie.Need-add-if1 Inv-loop μ-loop
-add-if1 c = search needs
-
-mul-if1-2 : tie.Need-mul-if1-2 Inv-loop μ-loop
-mul-if1-2 c = search needs
-
-shared-slice-read-if1 : tie.Need-shared-slice-read-if1 Inv-loop μ-loop
-shared-slice-read-if1 c = search needs
+takes-requires : tie.Need-takes-requires Inv-loop μ-loop
+takes-requires c κs = search needs
 
 add-m : tie.Need-add-m Inv-loop μ-loop
 add-m c = search needs
@@ -48,10 +39,10 @@ loop-less c = search needs
 loop-again : tie.Need-loop-again Inv-loop μ-loop
 loop-again c =
     let at = c .before .before .before .loop in
-    let x = c .before .before .before .before .before .before .before .args in
+    let a = c .before .before .before .before .before .before .args in
     let n = c .before .before .before .before .line-count .ensures in
-    let h : at .k < file (x .f .now) .count = omega arith in
-    (omega arith, (omega arith, count-yes _ _ _ (at .inv .1 .1) (point-on (x .f .now) (x .a .now) (c .before .before .before .before .before .before .before .pre .1) _ h (c .if1 .taken))))
+    let h : at .k < sheetOf (a .how) (a .f .now) .count = omega arith in
+    (omega arith, (omega arith, count-yes _ _ _ (at .inv .1 .1) (sym (takes-point (sheetOf (a .how) (a .f .now)) (at .k) h) ∙ sym (c .before .takes .ensures) ∙ c .if1 .taken)))
 
 add-k-2 : tie.Need-add-k-2 Inv-loop μ-loop
 add-k-2 c = search needs
@@ -62,18 +53,18 @@ loop-less-2 c = search needs
 loop-again-2 : tie.Need-loop-again-2 Inv-loop μ-loop
 loop-again-2 c =
     let at = c .before .before .before .loop in
-    let x = c .before .before .before .before .before .before .before .args in
+    let a = c .before .before .before .before .before .before .args in
     let n = c .before .before .before .before .line-count .ensures in
-    let h : at .k < file (x .f .now) .count = omega arith in
-    (omega arith, (omega arith, count-no _ _ _ (at .inv .1 .1) (point-off (x .f .now) (x .a .now) (c .before .before .before .before .before .before .before .pre .1) _ h (c .if1 .left))))
+    let h : at .k < sheetOf (a .how) (a .f .now) .count = omega arith in
+    (omega arith, (omega arith, count-no _ _ _ (at .inv .1 .1) (sym (takes-point (sheetOf (a .how) (a .f .now)) (at .k) h) ∙ sym (c .before .takes .ensures) ∙ c .if1 .left)))
 
 returns : tie.Need-returns Inv-loop μ-loop
 unfolding points
 returns c =
     let at = c .before .loop in
-    let x = c .before .before .before .before .before .args in
+    let a = c .before .before .before .before .args in
     let n = c .before .before .line-count .ensures in
-    at .inv .1 .1 ∙ ap (λ (k : ℕ). count k (isPoint (file (x .f .now)))) (omega arith)
+    at .inv .1 .1 ∙ ap (λ (k : ℕ). count k (isPoint (sheetOf (a .how) (a .f .now)))) (omega arith)
 
 pub points-spec : {M : Type 1} → statement M
 points-spec =
@@ -83,10 +74,7 @@ points-spec =
     μ-loop
     line-count-requires
     loop-holds
-    mul-if1
-    add-if1
-    mul-if1-2
-    shared-slice-read-if1
+    takes-requires
     add-m
     add-k
     loop-less

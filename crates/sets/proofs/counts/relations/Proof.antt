@@ -1,22 +1,22 @@
 -- `sets::counts::relations` meets its contract. Assumes nothing.
 use Prim.Native.Nat.{_-_, _<_, _≤_, ℕ}
-use Rattle.rules.proofs.Steps.{count-no, count-none, count-yes}
+use mathlib.Core.Path.{_∙_, _≡_, ap, sym}
 use Rattle.rules.specs.Check.{relations}
-use Rattle.rules.specs.Disc.{file}
 use Rattle.rules.specs.Lines.{isData}
 use Rattle.rules.specs.Places.{count}
-use Rattle.order.proofs.Shots.{data-off, data-on}
+use Rattle.rules.proofs.Steps.{count-no, count-none, count-yes}
+use Rattle.lines.specs.Reading.{sheetOf}
+use Rattle.keys.proofs.Lines.{takes-record}
 use borrow.Author.Needs.{needs}
-use mathlib.Core.Path.{_∙_, _≡_, ap, sym}
 use native.Mathlib.Omega.{arith}
 use Rattle.sets.proofs.counts.relations.Statement.{statement}
 use Rattle.sets.proofs.counts.relations.Tie as tie
 
 abbrev Inv-loop : tie.InvT-loop
-Inv-loop x c n m₀ k₀ m k = (k ≤ n) × ((m ≤ k) × (m ≡ count k (isData (file x))))
+Inv-loop x z n m₀ k₀ m k = (k ≤ n) × ((m ≤ k) × (m ≡ count k (isData (sheetOf (z .how) x))))
 
 abbrev μ-loop : tie.MeasureT-loop
-μ-loop x c n m₀ k₀ m k = n - k
+μ-loop x z n m₀ k₀ m k = n - k
 
 line-count-requires : tie.Need-line-count-requires Inv-loop μ-loop
 line-count-requires c κs = search needs
@@ -24,11 +24,8 @@ line-count-requires c κs = search needs
 loop-holds : tie.Need-loop-holds Inv-loop μ-loop
 loop-holds c = (omega arith, (omega arith, sym (count-none _)))
 
-mul-if1 : tie.Need-mul-if1 Inv-loop μ-loop
-mul-if1 c = search needs
-
-shared-slice-read-if1 : tie.Need-shared-slice-read-if1 Inv-loop μ-loop
-shared-slice-read-if1 c = search needs
+takes-requires : tie.Need-takes-requires Inv-loop μ-loop
+takes-requires c κs = search needs
 
 add-m : tie.Need-add-m Inv-loop μ-loop
 add-m c = search needs
@@ -42,10 +39,10 @@ loop-less c = search needs
 loop-again : tie.Need-loop-again Inv-loop μ-loop
 loop-again c =
     let at = c .before .before .before .loop in
-    let x = c .before .before .before .before .before .before .before .args in
+    let a = c .before .before .before .before .before .before .args in
     let n = c .before .before .before .before .line-count .ensures in
-    let h : at .k < file (x .x .now) .count = omega arith in
-    (omega arith, (omega arith, count-yes _ _ _ (at .inv .1 .1) (data-on (x .x .now) (x .c .now) (c .before .before .before .before .before .before .before .pre .1) _ h (c .if1 .taken))))
+    let h : at .k < sheetOf (a .how) (a .x .now) .count = omega arith in
+    (omega arith, (omega arith, count-yes _ _ _ (at .inv .1 .1) (sym (takes-record (sheetOf (a .how) (a .x .now)) (at .k) h) ∙ sym (c .before .takes .ensures) ∙ c .if1 .taken)))
 
 add-k-2 : tie.Need-add-k-2 Inv-loop μ-loop
 add-k-2 c = search needs
@@ -56,18 +53,18 @@ loop-less-2 c = search needs
 loop-again-2 : tie.Need-loop-again-2 Inv-loop μ-loop
 loop-again-2 c =
     let at = c .before .before .before .loop in
-    let x = c .before .before .before .before .before .before .before .args in
+    let a = c .before .before .before .before .before .before .args in
     let n = c .before .before .before .before .line-count .ensures in
-    let h : at .k < file (x .x .now) .count = omega arith in
-    (omega arith, (omega arith, count-no _ _ _ (at .inv .1 .1) (data-off (x .x .now) (x .c .now) (c .before .before .before .before .before .before .before .pre .1) _ h (c .if1 .left))))
+    let h : at .k < sheetOf (a .how) (a .x .now) .count = omega arith in
+    (omega arith, (omega arith, count-no _ _ _ (at .inv .1 .1) (sym (takes-record (sheetOf (a .how) (a .x .now)) (at .k) h) ∙ sym (c .before .takes .ensures) ∙ c .if1 .left)))
 
 returns : tie.Need-returns Inv-loop μ-loop
 unfolding relations
 returns c =
     let at = c .before .loop in
-    let x = c .before .before .before .before .before .args in
+    let a = c .before .before .before .before .args in
     let n = c .before .before .line-count .ensures in
-    at .inv .1 .1 ∙ ap (λ (k : ℕ). count k (isData (file (x .x .now)))) (omega arith)
+    at .inv .1 .1 ∙ ap (λ (k : ℕ). count k (isData (sheetOf (a .how) (a .x .now)))) (omega arith)
 
 pub relations-spec : {M : Type 1} → statement M
 relations-spec =
@@ -77,8 +74,7 @@ relations-spec =
     μ-loop
     line-count-requires
     loop-holds
-    mul-if1
-    shared-slice-read-if1
+    takes-requires
     add-m
     add-k
     loop-less

@@ -1,0 +1,60 @@
+-- `sets::check_on` meets its contract. Assumes nothing.
+use Rattle.form.proofs.Laws.{is-broken, is-met}
+use Rattle.sets.proofs.Answers.{judged-across, known-set, refused-forms, refused-heads}
+use borrow.Author.Needs.{needs}
+use Rattle.sets.proofs.check_on.Statement.{statement}
+use Rattle.sets.proofs.check_on.Tie as tie
+
+forms-requires : tie.Need-forms-requires
+forms-requires c κs = search needs
+
+enum-known-v : tie.Need-enum-known-v
+enum-known-v c = search needs
+
+returns : tie.Need-returns
+returns c = refused-forms _ _ _ _ (is-broken _ _ (c .before .before .before .forms .ensures) (c .before .v .given .1))
+
+enum-told : tie.Need-enum-told
+enum-told c = search needs
+
+headers-fit-requires : tie.Need-headers-fit-requires
+headers-fit-requires c κs =
+    let a = c .before .before .before .before .before .before .args in
+    let k = known-set (a .how) (a .r .now) (a .s .now) (a .x .now) (is-met _ _ (c .before .before .forms .ensures) (c .enum-told .given .1)) in
+    (k .receivers .few, (k .shots .few, k .relations .few))
+
+enum-known-u : tie.Need-enum-known-u
+enum-known-u c = search needs
+
+returns-2 : tie.Need-returns-2
+returns-2 c =
+    refused-heads _ _ _ (is-met _ _ (c .before .before .before .before .before .before .forms .ensures) (c .before .before .before .before .enum-told .given .1)) _
+    (is-broken _ _ (c .before .before .before .headers-fit .ensures) (c .before .u .given .1))
+
+enum-told-2 : tie.Need-enum-told-2
+enum-told-2 c = search needs
+
+answer-across-requires : tie.Need-answer-across-requires
+answer-across-requires c κs =
+    let a = c .before .before .before .before .before .before .before .before .before .args in
+    known-set (a .how) (a .r .now) (a .s .now) (a .x .now) (is-met _ _ (c .before .before .before .before .before .forms .ensures) (c .before .before .before .enum-told .given .1))
+
+returns-3 : tie.Need-returns-3
+returns-3 c =
+    judged-across _ _ _ (is-met _ _ (c .before .before .before .before .before .before .forms .ensures) (c .before .before .before .before .enum-told .given .1)) _
+    (is-met _ _ (c .before .before .before .headers-fit .ensures) (c .before .enum-told2 .given .1)) (c .answer-across .ensures)
+
+pub check-on-spec : {M : Type 1} → statement M
+check-on-spec =
+    tie.close
+    (tie.spec
+    forms-requires
+    enum-known-v
+    returns
+    enum-told
+    headers-fit-requires
+    enum-known-u
+    returns-2
+    enum-told-2
+    answer-across-requires
+    returns-3)
