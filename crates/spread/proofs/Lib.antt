@@ -1,8 +1,7 @@
-pub mod Lines
+pub mod Places
 pub mod Taken
-pub mod Halves
-pub mod Ordered
+pub mod Asked
+pub mod Rows
 pub mod Reached
 pub mod Whole
 pub mod One
-pub mod Bytes

@@ -1,27 +1,34 @@
 -- The contracts of this crate leave one outcome: any two results, and contents of the lent slices, that meet one of them are the same.
 use mathlib.Core.Path.{refl, sym, _∙_}
 use Rattle.outcome.specs.One.{One, both}
-use Rattle.spread.proofs.Taken.{one-taken}
 use Rattle.spread.proofs.highest as highest
 use Rattle.spread.proofs.highest.Reads as highest-reads
 use Rattle.spread.proofs.fill as fill
 use Rattle.spread.proofs.fill.Reads as fill-reads
 use Rattle.spread.proofs.fill_bytes as fill-bytes
 use Rattle.spread.proofs.fill_bytes.Reads as fill-bytes-reads
-use Rattle.spread.proofs.places.put_bytes as put-bytes
-use Rattle.spread.proofs.places.put_bytes.Reads as put-bytes-reads
-use Rattle.spread.proofs.record.of_record as of-record
-use Rattle.spread.proofs.record.of_record.Reads as of-record-reads
-use Rattle.spread.proofs.record.upto_of as upto-of
-use Rattle.spread.proofs.record.upto_of.Reads as upto-of-reads
-use Rattle.spread.proofs.places.clear as clear
-use Rattle.spread.proofs.places.clear.Reads as clear-reads
-use Rattle.spread.proofs.seek.write_lasts as write-lasts
-use Rattle.spread.proofs.seek.write_lasts.Reads as write-lasts-reads
-use Rattle.spread.proofs.seek.find as find
-use Rattle.spread.proofs.seek.find.Reads as find-reads
-use Rattle.spread.proofs.places.put as put
-use Rattle.spread.proofs.places.put.Reads as put-reads
+use Rattle.spread.proofs.wanted.coded as wanted-coded
+use Rattle.spread.proofs.wanted.coded.Reads as wanted-coded-reads
+use Rattle.spread.proofs.wanted.is_of as wanted-is-of
+use Rattle.spread.proofs.wanted.is_of.Reads as wanted-is-of-reads
+use Rattle.spread.proofs.wanted.upto_of as wanted-upto-of
+use Rattle.spread.proofs.wanted.upto_of.Reads as wanted-upto-of-reads
+use Rattle.spread.proofs.numbers.clear as numbers-clear
+use Rattle.spread.proofs.numbers.clear.Reads as numbers-clear-reads
+use Rattle.spread.proofs.numbers.put as numbers-put
+use Rattle.spread.proofs.numbers.put.Reads as numbers-put-reads
+use Rattle.spread.proofs.numbers.put_all as numbers-put-all
+use Rattle.spread.proofs.numbers.put_all.Reads as numbers-put-all-reads
+use Rattle.spread.proofs.bytes.clear as bytes-clear
+use Rattle.spread.proofs.bytes.clear.Reads as bytes-clear-reads
+use Rattle.spread.proofs.bytes.put as bytes-put
+use Rattle.spread.proofs.bytes.put.Reads as bytes-put-reads
+use Rattle.spread.proofs.bytes.put_all as bytes-put-all
+use Rattle.spread.proofs.bytes.put_all.Reads as bytes-put-all-reads
+use Rattle.spread.proofs.components.put as components-put
+use Rattle.spread.proofs.components.put.Reads as components-put-reads
+use Rattle.spread.proofs.components.put_all as components-put-all
+use Rattle.spread.proofs.components.put_all.Reads as components-put-all-reads
 
 pub highest-one : One highest.ended highest-reads.Post
 highest-one κs a v v′ w w′ p p′ = (p ∙ sym p′, refl)
@@ -34,25 +41,35 @@ pub fill-bytes-one : One fill-bytes.ended fill-bytes-reads.Post
 fill-bytes-one κs a v v′ w w′ p p′ =
     (refl, both refl (both refl (both refl (both refl (both refl (both (p .0 ∙ sym (p′ .0)) (both (p .1 ∙ sym (p′ .1)) refl)))))))
 
-pub put-bytes-one : One put-bytes.ended put-bytes-reads.Post
-put-bytes-one κs a v v′ w w′ p p′ = (refl, both refl (both refl (both (p ∙ sym p′) refl)))
+pub wanted-coded-one : One wanted-coded.ended wanted-coded-reads.Post
+wanted-coded-one κs a v v′ w w′ p p′ = (p ∙ sym p′, refl)
 
-pub of-record-one : One of-record.ended of-record-reads.Post
-of-record-one κs a v v′ w w′ p p′ = (p ∙ sym p′, refl)
+pub wanted-is-of-one : One wanted-is-of.ended wanted-is-of-reads.Post
+wanted-is-of-one κs a v v′ w w′ p p′ = (p ∙ sym p′, refl)
 
-pub upto-of-one : One upto-of.ended upto-of-reads.Post
-upto-of-one κs a v v′ w w′ p p′ = (p ∙ sym p′, refl)
+pub wanted-upto-of-one : One wanted-upto-of.ended wanted-upto-of-reads.Post
+wanted-upto-of-one κs a v v′ w w′ p p′ = (p ∙ sym p′, refl)
 
-pub clear-one : One clear.ended clear-reads.Post
-clear-one κs a v v′ w w′ p p′ =
-    (refl, both refl (both (one-taken _ _ _ _ _ (p .0) (p′ .0)) (both (one-taken _ _ _ _ _ (p .1) (p′ .1)) refl)))
+pub numbers-clear-one : One numbers-clear.ended numbers-clear-reads.Post
+numbers-clear-one κs a v v′ w w′ p p′ = (refl, both refl (both (p ∙ sym p′) refl))
 
-pub write-lasts-one : One write-lasts.ended write-lasts-reads.Post
-write-lasts-one κs a v v′ w w′ p p′ = (refl, both refl (both refl (both (p ∙ sym p′) refl)))
+pub numbers-put-one : One numbers-put.ended numbers-put-reads.Post
+numbers-put-one κs a v v′ w w′ p p′ = (refl, both refl (both refl (both refl (both refl (both refl (both (p ∙ sym p′) refl))))))
 
-pub find-one : One find.ended find-reads.Post
-find-one κs a v v′ w w′ p p′ = (p ∙ sym p′, refl)
+pub numbers-put-all-one : One numbers-put-all.ended numbers-put-all-reads.Post
+numbers-put-all-one κs a v v′ w w′ p p′ = (refl, both refl (both refl (both refl (both refl (both refl (both refl (both (p ∙ sym p′) refl)))))))
 
-pub put-one : One put.ended put-reads.Post
-put-one κs a v v′ w w′ p p′ =
-    (refl, both refl (both refl (both refl (both refl (both refl (both refl (both refl (both refl (both refl (both (one-taken _ _ _ _ _ (p .0) (p′ .0)) (both (one-taken _ _ _ _ _ (p .1) (p′ .1)) refl)))))))))))
+pub bytes-clear-one : One bytes-clear.ended bytes-clear-reads.Post
+bytes-clear-one κs a v v′ w w′ p p′ = (refl, both refl (both (p ∙ sym p′) refl))
+
+pub bytes-put-one : One bytes-put.ended bytes-put-reads.Post
+bytes-put-one κs a v v′ w w′ p p′ = (refl, both refl (both refl (both refl (both refl (both refl (both (p ∙ sym p′) refl))))))
+
+pub bytes-put-all-one : One bytes-put-all.ended bytes-put-all-reads.Post
+bytes-put-all-one κs a v v′ w w′ p p′ = (refl, both refl (both refl (both refl (both refl (both refl (both refl (both (p ∙ sym p′) refl)))))))
+
+pub components-put-one : One components-put.ended components-put-reads.Post
+components-put-one κs a v v′ w w′ p p′ = (refl, both refl (both refl (both refl (both (p ∙ sym p′) refl))))
+
+pub components-put-all-one : One components-put-all.ended components-put-all-reads.Post
+components-put-all-one κs a v v′ w w′ p p′ = (refl, both refl (both refl (both refl (both refl (both (p ∙ sym p′) refl)))))

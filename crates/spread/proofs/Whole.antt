@@ -1,4 +1,4 @@
--- A whole record: its relation lines one by one, and what the slices hold after the last.
+-- A whole record: its relation lines one by one, and what a slice holds after the last.
 use Prim.Native.Nat.{ℕ, _+_, _≤_, _<_}
 use native.Mathlib.Numerals.{add-one}
 use native.Mathlib.Omega.{arith}
@@ -7,122 +7,127 @@ use mathlib.Core.Logic.{_↔_, Iff·rfl}
 use mathlib.Core.Bool.{Bool, true, false, _&&_}
 use mathlib.Core.List.{List}
 use lib.Dec.{ltb}
-use lib.ListN.{length, getD}
-use lib.Seq.{ext-getD}
-use borrow.Author.Tests.{ltb-true, lt-ltb}
+use lib.ListN.{length}
 use Rattle.rules.specs.Places.{pick, some}
-use Rattle.rules.specs.Disc.{file}
+use Rattle.rules.specs.Sheet.{Sheet}
 use Rattle.rules.specs.Lines.{isData}
 use Rattle.rules.specs.Relations.{reachAt}
 use Rattle.rules.specs.Cover.{carries}
-use Rattle.rules.specs.Reaches.{ofRecord}
+use Rattle.rules.specs.Reaches.{reachesOf, ofRecord, search}
 use Rattle.rules.specs.Check.{Answer, noTrace}
 use Rattle.rules.specs.Lookup.{found}
-use Rattle.rules.specs.Spread.{highestOf, turns, place}
-use Rattle.rules.proofs.Tests.{clash, and-is, pick-is, some-is, yes-no}
+use Rattle.rules.specs.Spread.{componentOf, highestOf, turns, Put}
+use Rattle.rules.proofs.Tests.{clash, and-is, some-is}
 use Rattle.rules.proofs.Steps.{some-none}
 use Rattle.rules.proofs.Form.{Data, data-is}
 use Rattle.rules.proofs.Order.{OfRecord, of-record-is}
 use Rattle.rules.proofs.Cover.{Carries, carries-is}
 use Rattle.rules.proofs.Search.{Of}
 use Rattle.rules.proofs.Traces.{given, found-trace, not-carried}
-use Rattle.rules.proofs.Turns.{turns-length, turns-after, turns-at}
 use Rattle.rules.proofs.Spreads.{highest-is}
-use Rattle.spread.specs.Takes.{between, Takes, here, hereUpTo, Accepted}
-use Rattle.spread.proofs.Taken.{is-between, not-before, takes-not, takes-as, takes-then}
-use Rattle.spread.proofs.Reached.{meets}
+use Rattle.form.specs.Known.{Known}
+use Rattle.form.proofs.Known.{upto-small}
+use Rattle.spread.specs.declared.wanted.Wanted.{Wanted}
+use Rattle.spread.specs.Asked.{Asked, wantedOf, isOf, Accepted}
+use Rattle.spread.specs.Taken.{taken, here, hereUpTo, componentAt}
+use Rattle.spread.proofs.Places.{Places}
+use Rattle.spread.proofs.Taken.{none-taken, taken-as, taken-then, all-taken}
+use Rattle.spread.proofs.Asked.{is-of, meets}
 
--- one line more
-module _ (p : ℕ → ℕ → Bool) (v : ℕ → ℕ) (d : List ℕ) where
-  pub no-line : Takes (λ c. some 0 (λ j. p j c)) v d d
-  no-line = takes-not _ v d (λ c. some-none (λ j. p j c))
+-- the component of an answer does not ask R
+pub component-at : (r x : Sheet) (t : List ℕ) (n c : ℕ) → componentOf (found r x t n c) ≡ componentAt x t n c
+unfolding found componentAt componentOf pick
+component-at r x t n c = go (ltb (search (reachesOf x) t n (λ q. carries q c)) (x .count))
+  where
+    k : ℕ
+    k = search (reachesOf x) t n (λ q. carries q c)
 
-  pub line-more : (k : ℕ) (l m : List ℕ) → Takes (λ c. some k (λ j. p j c)) v d l → Takes (p k) v l m
-      → Takes (λ c. some (k + 1) (λ j. p j c)) v d m
-  unfolding some
-  line-more k l m w u = takes-as _ _ v v d m (λ c. rw add-one) (λ c _. refl) (takes-then _ (p k) v d l m w u)
+    go : (b : Bool) → componentOf (pick b (given r (reachAt x k) c) noTrace) ≡ pick b (componentOf (given r (reachAt x k) c)) 0
+    go true = refl
+    go false = refl
 
-here-is : (x t : List ℕ) (n k c : ℕ)
-    → (here x t n k c ≡ true) ↔ (Data (file x) k × (OfRecord t n (reachAt (file x) k) × Carries (reachAt (file x) k) c))
+here-is : (x : Sheet) (t : List ℕ) (n k c : ℕ)
+    → (here x t n k c ≡ true) ↔ (Data x k × (OfRecord t n (reachAt x k) × Carries (reachAt x k) c))
 here-is x t n k c = simp (and-is, data-is, of-record-is, carries-is) Iff·rfl
 
+false-is : (b : Bool) → (b ≡ true → ⊥) → b ≡ false
+false-is true f = absurd (f refl)
+false-is false f = refl
+
+not-both : (a b c : Bool) → (a && b) ≡ false → (a && (b && c)) ≡ false
+not-both true true c e = clash (sym e)
+not-both true false c e = refl
+not-both false b c e = refl
+
 -- line k, by whether it is of the record
-module _ (x t : List ℕ) (n k : ℕ) (h : k < file x .count) (b : Bool) (eb : b ≡ (isData (file x) k && ofRecord t n (reachAt (file x) k))) where
-  pub not-here : b ≡ false → (v : ℕ → ℕ) (d : List ℕ) → Takes (here x t n k) v d d
-  not-here e v d = takes-not (here x t n k) v d (λ c. no (isData (file x) k) (ofRecord t n (reachAt (file x) k)) _ (sym eb ∙ e))
-    where
-      no : (a b c : Bool) → (a && b) ≡ false → (a && (b && c)) ≡ false
-      no true true c e = clash (sym e)
-      no true false c e = refl
-      no false b c e = refl
+module _ (x : Sheet) (t : List ℕ) (n : ℕ) (known : Known 3 x) (asked : Asked t n) (w : Wanted) (ew : w ≡ wantedOf t n)
+    (k : ℕ) (h : k < x .count) (b : Bool) (eb : b ≡ isOf x w k) where
+  is-here : b ≡ (isData x k && ofRecord t n (reachAt x k))
+  is-here = eb ∙ ap (λ (v : Wanted). isOf x v k) ew ∙ is-of x known t n asked k h
+
+  module _ (put : Put) (pl : Places put) (v : ℕ → ℕ) (m : ℕ) (d l : List ℕ) (inv : l ≡ taken put (hereUpTo x t n k) v m d) where
+    more-put : (l′ : List ℕ) → l′ ≡ taken put (here x t n k) v m l → l′ ≡ taken put (hereUpTo x t n (k + 1)) v m d
+    unfolding some
+    more-put l′ e =
+        e ∙ ap (taken put (here x t n k) v m) inv ∙ taken-then put pl (hereUpTo x t n k) (here x t n k) v m d
+        ∙ taken-as put pl _ (hereUpTo x t n (k + 1)) v v m d (λ i _. rw (add-one k)) (λ i _ _. refl)
+
+    pub line-off : b ≡ false → l ≡ taken put (hereUpTo x t n (k + 1)) v m d
+    line-off e = more-put l (none-taken put (here x t n k) v m l (λ i _. not-both (isData x k) _ _ (sym is-here ∙ e)))
 
   module _ (e : b ≡ true) where
-    both : (isData (file x) k ≡ true) × (ofRecord t n (reachAt (file x) k) ≡ true)
-    both = and-is (isData (file x) k) (ofRecord t n (reachAt (file x) k)) .0 (sym eb ∙ e)
+    both : (isData x k ≡ true) × (ofRecord t n (reachAt x k) ≡ true)
+    both = and-is (isData x k) (ofRecord t n (reachAt x k)) .0 (sym is-here ∙ e)
 
-    of : Of (file x) t n k
-    of = (data-is (file x) k .0 (both .0), of-record-is t n (reachAt (file x) k) .0 (both .1))
+    of : Of x t n k
+    of = (data-is x k .0 (both .0), of-record-is t n (reachAt x k) .0 (both .1))
 
-    pub relation-here : isData (file x) k ≡ true
-    relation-here = both .0
+    pub relation-on : isData x k ≡ true
+    relation-on = both .0
 
-    pub room-here : (m : ℕ) → highestOf (file x) t n ≤ m → reachAt (file x) k .upto ≤ m
-    room-here m l = highest-is (file x) t n m .0 l k h of
+    pub room-on : (m : ℕ) → highestOf x t n ≤ m → reachAt x k .upto ≤ m
+    room-on m l = highest-is x t n m .0 l k h of
 
-    pub taken-here : (r s : List ℕ) → Accepted r s x → (part : Answer → ℕ) (v : ℕ → ℕ)
-        → ((c : ℕ) → part (given (file r) (reachAt (file x) k) c) ≡ v c) → (d m : List ℕ)
-        → Takes (carries (reachAt (file x) k)) v d m → Takes (here x t n k) (λ c. part (found (file r) (file x) t n c)) d m
-    taken-here r s ok part v ev d m w =
-        takes-as _ _ _ _ d m (λ c. let y = both .0 in let z = both .1 in rw (y, z))
-        (λ c g.
-        sym (ev c)
-        ∙ ap part (sym (found-trace (file r) (file s) (file x) (meets r s x ok) t n c k h of (carries-is (reachAt (file x) k) c .0 g))))
-        w
+    pub line-on : (r : Sheet) → Accepted r x → (put : Put) → Places put → (part : Answer → ℕ) (u v : ℕ → ℕ)
+        → ((c : ℕ) → part (given r (reachAt x k) c) ≡ u c) → ((c : ℕ) → part (found r x t n c) ≡ v c) → (m : ℕ) (d l l′ : List ℕ)
+        → l ≡ taken put (hereUpTo x t n k) v m d → l′ ≡ taken put (carries (reachAt x k)) u m l → l′ ≡ taken put (hereUpTo x t n (k + 1)) v m d
+    line-on r ok put pl part u v eu ev m d l l′ inv g =
+        more-put put pl v m d l inv l′
+        (g
+        ∙ taken-as put pl (carries (reachAt x k)) (here x t n k) u v m l (λ i _. let y = both .0 in let z = both .1 in rw (y, z))
+        (λ i _ z.
+        let a = here-is x t n k (i + 1) .0 z in
+        sym (eu (i + 1)) ∙ ap part (sym (found-trace r (ok .shots) x (meets r x ok) t n (i + 1) k h of (a .1 .1))) ∙ ev (i + 1)))
 
--- after the last line: `part` is the slice's part of an answer
-module _ (r x t : List ℕ) (n : ℕ) (part : Answer → ℕ) (zero : part noTrace ≡ 0) (d l m : List ℕ) (room : highestOf (file x) t n ≤ length d)
-    (w : Takes (between 1 (highestOf (file x) t n + 1)) (λ _. 0) d l)
-    (u : Takes (hereUpTo x t n (file x .count)) (λ c. part (found (file r) (file x) t n c)) l m) where
-  abbrev high : ℕ
-  high = highestOf (file x) t n
+pub highest-small : (x : Sheet) (t : List ℕ) (n : ℕ) → Known 3 x → highestOf x t n ≤ 99999999
+highest-small x t n w = highest-is x t n 99999999 .1 (λ k h o. let u = upto-small 3 x w k h in omega arith)
 
-  abbrev value : ℕ → ℕ
-  value c = part (found (file r) (file x) t n c)
+pub no-line : (put : Put) (x : Sheet) (t : List ℕ) (n : ℕ) (v : ℕ → ℕ) (m : ℕ) (d : List ℕ) → d ≡ taken put (hereUpTo x t n 0) v m d
+no-line put x t n v m d = none-taken put (hereUpTo x t n 0) v m d (λ i _. some-none (λ j. here x t n j (i + 1)))
 
-  carried : (c : ℕ) → hereUpTo x t n (file x .count) c ≡ true → c ≤ high
-  carried c e =
-      let a = some-is (file x .count) _ .0 e in
-      let b = here-is x t n (a .0) c .0 (a .2) in
-      let g = highest-is (file x) t n high .0 (omega arith) (a .0) (a .1) (b .0, b .1 .0) in
-      let f = b .1 .1 .1 in
-      omega arith
+-- after the last line: each place up to the highest channel has its channel's value
+module _ (r x : Sheet) (t : List ℕ) (n : ℕ) (part : Answer → ℕ) (zero : part noTrace ≡ 0) (v : ℕ → ℕ)
+    (ev : (c : ℕ) → part (found r x t n c) ≡ v c) where
+  high-none : (i : ℕ) → highestOf x t n ≤ i → hereUpTo x t n (x .count) (i + 1) ≡ false
+  high-none i h =
+      false-is _
+      (λ e.
+      let w = some-is (x .count) (λ j. here x t n j (i + 1)) .0 e in
+      let y = here-is x t n (w .0) (i + 1) .0 (w .2) in
+      let u = highest-is x t n (highestOf x t n) .0 (omega arith) (w .0) (w .1) (y .0, y .1 .0) in
+      let z = y .1 .1 .1 in
+      omega arith)
 
-  uncarried : (c : ℕ) → (hereUpTo x t n (file x .count) c ≡ true → ⊥) → value c ≡ 0
+  uncarried : (c : ℕ) → hereUpTo x t n (x .count) c ≡ false → v c ≡ 0
   uncarried c f =
-      ap part
-      (not-carried (file r) (file x) t n c .1
-      (λ k h o y. f (some-is (file x .count) _ .1 (k, h, here-is x t n k c .1 (o .0, (o .1, y))))))
+      sym (ev c)
+      ∙ ap part
+      (not-carried r x t n c .1
+      (λ k h o y. clash (sym f ∙ some-is (x .count) (λ j. here x t n j c) .1 (k, h, here-is x t n k c .1 (o .0, (o .1, y))))))
       ∙ zero
 
-  low : (i : ℕ) → i < high → getD m i 0 ≡ value (i + 1)
-  unfolding pick
-  low i h =
-      u .at i
-      ∙ pick-is (hereUpTo x t n (file x .count) (i + 1)) _ _ _ .1
-      (λ _. refl, λ f. w .at i ∙ (rw (is-between 1 (high + 1) (i + 1) (omega arith) (omega arith))) ∙ sym (uncarried (i + 1) f))
-
-  late : (i : ℕ) → high ≤ i → getD m i 0 ≡ getD d i 0
-  unfolding pick
-  late i h =
-      u .at i
-      ∙ pick-is (hereUpTo x t n (file x .count) (i + 1)) _ _ _ .1
-      (λ e. let g = carried (i + 1) e in absurd (omega arith), λ _. w .at i ∙ (rw (not-before 1 (high + 1) (i + 1) (omega arith))))
-
-  pub whole : m ≡ turns (place value) high d
-  whole =
-      ext-getD 0 m (turns (place value) high d) (u .size ∙ w .size ∙ sym (turns-length value high d))
-      (λ i _.
-      yes-no (ltb i high) (λ e. let h = ltb-true i high e in low i h ∙ sym (turns-at value high d i room h))
-      (λ e.
-      let g : i < high → ⊥ = λ h. e (lt-ltb i high h) in
-      late i (omega arith) ∙ sym (turns-after value high d i (omega arith))))
+  pub whole : (put : Put) → Places put → (h m : ℕ) → h ≡ highestOf x t n → h ≤ m → (d l e : List ℕ) → l ≡ turns (put (λ _. 0)) h d
+      → e ≡ taken put (hereUpTo x t n (x .count)) v m l → e ≡ turns (put v) (highestOf x t n) d
+  whole put pl h m q g d l e el ee =
+      all-taken put pl (hereUpTo x t n (x .count)) v h m d l e g (λ i a _. high-none i (omega arith)) uncarried el ee
+      ∙ ap (λ (i : ℕ). turns (put v) i d) q

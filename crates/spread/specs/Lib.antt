@@ -1,2 +1,2 @@
-pub mod Takes
-pub mod Halves
+pub mod Asked
+pub mod Taken

@@ -1,38 +1,36 @@
 // The spread table of a record: its highest covered channel, and the R line and component of each channel up to it, written into
-// two lent slices. The numbers of R's points, and the last receiver up to each line of R, stand in arrays of the call.
+// two lent slices. One array is its own: the receivers of R in their order.
 ghost use mathlib.Core.Path.{_≡_};
-ghost use mathlib.Core.Bool.{true};
-ghost use Prim.Native.Nat.{_*_, _≤_, _<_};
-ghost use lib.ListN.{length};
-ghost use Rattle.rules.specs.Plan.{fine, run};
-ghost use Rattle.rules.specs.Layout.{sps93};
-ghost use Rattle.rules.specs.Disc.{file};
-ghost use Rattle.rules.specs.Relations.{reachAt};
-ghost use Rattle.rules.specs.Cover.{carries};
-ghost use Rattle.rules.specs.Check.{rules};
-ghost use Rattle.rules.specs.Questions.{recordAsked};
-ghost use Rattle.rules.specs.Lookup.{found};
-ghost use Rattle.rules.specs.Spread.{highestOf, lineOf, componentOf, turns, place, bytePlace};
-ghost use Rattle.order.specs.Held.{HoldsPoints, RelationLine};
-ghost use Rattle.spread.specs.Halves.{HoldsLasts};
-ghost use Rattle.spread.specs.Takes.{TakeBoth, Room, here, hereUpTo, Accepted, lineIn, componentIn, lineAt, componentAt};
-use records::relation;
-use rows::Rows;
+ghost use Prim.Native.Nat.{_*_, _/_, _≤_};
+ghost use lib.ListN.{length, take};
+ghost use Rattle.rules.specs.Sheet.{mostLines};
+ghost use Rattle.rules.specs.Spread.{highestOf, place, bytePlace};
+ghost use Rattle.lines.specs.Reading.{sheetOf};
+ghost use Rattle.form.specs.Known.{Known};
+ghost use Rattle.keys.specs.Held.{KnownReceivers};
+ghost use Rattle.receivers.specs.Rows.{Rows};
+ghost use Rattle.spread.specs.Asked.{Asked, Accepted, InSet};
+ghost use Rattle.spread.specs.Taken.{recordLines, filledLines, filledComponents};
+use keys::By;
+use keys::Keyed;
+use lines::Reading;
 
-mod places;
-mod record;
-mod seek;
+mod bytes;
+mod components;
+mod numbers;
+pub mod wanted;
 
 // The record's highest covered channel; 0 where the record is absent.
-pub fn highest(x: &[u8], t: &[u8], n: u64) -> u64
-    requires { ⌜ recordAsked sps93 (now t) n ≡ true ⌝ }
-    ensures value { λ h. ⌜ h ≡ highestOf (file (now (x .entry))) (now (t .entry)) n ⌝ }
+pub fn highest(how: Reading, x: &[u8], tape: &[u8], record: u64) -> u64
+    requires { ⌜ Known 3 (sheetOf how (now x)) × Asked (now tape) «record» ⌝ }
+    ensures value { λ h. ⌜ h ≡ highestOf (sheetOf how (now (x .entry))) (now (tape .entry)) «record» ⌝ }
 {
-    let count = lines::line_count(x);
+    let w = wanted::coded(tape, record);
+    let count = lines::line_count(how, x);
     let mut h: u64 = 0;
     let mut k = 0;
     while k < count {
-        let u = record::upto_of(x, k, t, n);
+        let u = wanted::upto_of(how, x, k, w);
         if h < u {
             h = u;
             k += 1;
@@ -43,143 +41,112 @@ pub fn highest(x: &[u8], t: &[u8], n: u64) -> u64
     h
 }
 
-// Puts what relation line k leads its channels to. a holds the numbers of R's point lines, at the last receiver up to each of them.
-fn put_reach(
-    r: &[u8],
-    s: &[u8],
-    x: &[u8],
-    a: &[u64],
-    at: &[u16],
-    k: usize,
-    lines: &mut [u16],
-    components: &mut [u8],
-)
-    requires { ⌜ ((Accepted (now r) (now s) (now x) × (HoldsPoints (now r) (now a) × HoldsLasts (now r) (now at))) × RelationLine (now x) k) × Room (reachAt (file (now x)) k .upto) (now lines) (now components) ⌝ }
-    ensures written { λ _. ⌜ TakeBoth (carries (reachAt (file (now (x .entry))) k)) (lineIn (now (r .entry)) (now (x .entry)) k) (componentIn (now (x .entry)) k) (now (lines .entry)) (now (lines .exit)) (now (components .entry)) (now (components .exit)) ⌝ }
+// Writes the receivers of R in their order to the first places of o, and says how many they are. The scratch array ends with it.
+fn in_order(how: Reading, r: &[u8], o: &mut [u32]) -> usize
+    requires { ⌜ KnownReceivers (sheetOf how (now r)) × (mostLines ≤ length (now o)) ⌝ }
+    ensures order { λ m. ⌜ (m ≤ length (now (o .exit))) × Rows (sheetOf how (now (r .entry))) (take m (now (o .exit))) ⌝ }
 {
-    let q = relation::reach_of(&lines::line_of(x, k));
-    let name = q.receiver;
-    let first = 256 * (q.from_receiver as u64) + q.receiver_index as u64 + 1;
-    places::put(
-        a,
-        at,
-        lines::line_count(r),
-        name.hi,
-        name.lo,
-        first,
-        q.from as usize,
-        q.upto as usize + 1,
-        q.step as usize,
-        lines,
-        components,
-    );
+    let mut p = [0u32; lines::MOST_LINES];
+    order::in_order(
+        Keyed {
+            how,
+            by: By::Receivers,
+        },
+        r,
+        o,
+        &mut p,
+    )
 }
 
-// Puts what line k leads its channels to, where it is a relation line of tape t and record n.
-fn put_line(
-    r: &[u8],
-    s: &[u8],
-    x: &[u8],
-    t: &[u8],
-    n: u64,
-    a: &[u64],
-    at: &[u16],
-    k: usize,
-    lines: &mut [u16],
-    components: &mut [u8],
-)
-    requires { ⌜ ((Accepted (now r) (now s) (now x) × (HoldsPoints (now r) (now a) × HoldsLasts (now r) (now at))) × ((k < file (now x) .count) × (length (now t) ≡ 6))) × Room (highestOf (file (now x)) (now t) n) (now lines) (now components) ⌝ }
-    ensures written { λ _. ⌜ TakeBoth (here (now (x .entry)) (now (t .entry)) n k) (lineAt (now (r .entry)) (now (x .entry)) (now (t .entry)) n) (componentAt (now (r .entry)) (now (x .entry)) (now (t .entry)) n) (now (lines .entry)) (now (lines .exit)) (now (components .entry)) (now (components .exit)) ⌝ }
+// Puts the R lines of the record's channels, as numbers.
+fn put_numbers(how: Reading, r: &[u8], x: &[u8], tape: &[u8], record: u64, lines: &mut [u16])
+    requires { ⌜ Accepted (sheetOf how (now r)) (sheetOf how (now x))
+        × (Asked (now tape) «record» × (highestOf (sheetOf how (now x)) (now tape) «record» ≤ length (now lines))) ⌝ }
+    ensures written { λ _. ⌜ now (lines .exit)
+        ≡ recordLines place (sheetOf how (now (r .entry))) (sheetOf how (now (x .entry))) (now (tape .entry)) «record»
+        (length (now (lines .entry))) (now (lines .entry)) ⌝ }
 {
-    if record::of_record(x, k, t, n) {
-        put_reach(r, s, x, a, at, k, lines, components);
-    }
+    let mut o = [0u32; lines::MOST_LINES];
+    let m = in_order(how, r, &mut o);
+    numbers::put_all(how, r, &o[..m], x, tape, record, lines);
 }
 
-// Puts what all relation lines of tape t and record n lead their channels to.
-fn put_lines(
-    r: &[u8],
-    s: &[u8],
-    x: &[u8],
-    t: &[u8],
-    n: u64,
-    a: &[u64],
-    at: &[u16],
-    lines: &mut [u16],
-    components: &mut [u8],
-)
-    requires { ⌜ ((Accepted (now r) (now s) (now x) × (HoldsPoints (now r) (now a) × HoldsLasts (now r) (now at))) × (length (now t) ≡ 6)) × Room (highestOf (file (now x)) (now t) n) (now lines) (now components) ⌝ }
-    ensures written { λ _. ⌜ TakeBoth (hereUpTo (now (x .entry)) (now (t .entry)) n (file (now (x .entry)) .count)) (lineAt (now (r .entry)) (now (x .entry)) (now (t .entry)) n) (componentAt (now (r .entry)) (now (x .entry)) (now (t .entry)) n) (now (lines .entry)) (now (lines .exit)) (now (components .entry)) (now (components .exit)) ⌝ }
+// The same as bytes.
+fn put_bytes(how: Reading, r: &[u8], x: &[u8], tape: &[u8], record: u64, lines: &mut [u8])
+    requires { ⌜ Accepted (sheetOf how (now r)) (sheetOf how (now x))
+        × (Asked (now tape) «record» × (2 * highestOf (sheetOf how (now x)) (now tape) «record» ≤ length (now lines))) ⌝ }
+    ensures written { λ _. ⌜ now (lines .exit)
+        ≡ recordLines bytePlace (sheetOf how (now (r .entry))) (sheetOf how (now (x .entry))) (now (tape .entry)) «record»
+        (length (now (lines .entry)) / 2) (now (lines .entry)) ⌝ }
 {
-    let count = lines::line_count(x);
-    let mut k = 0;
-    while k < count {
-        put_line(r, s, x, t, n, a, at, k, lines, components);
-        k += 1;
-    }
+    let mut o = [0u32; lines::MOST_LINES];
+    let m = in_order(how, r, &mut o);
+    bytes::put_all(how, r, &o[..m], x, tape, record, lines);
 }
 
-// The same, from the text of R, whose numbers are read once into a, and its receivers once into at.
-fn write(
-    r: &[u8],
-    s: &[u8],
+// Puts the components of the record's channels up to the highest, or 0.
+fn fill_components(
+    how: Reading,
     x: &[u8],
-    t: &[u8],
-    n: u64,
-    a: &mut [u64],
-    at: &mut [u16],
-    lines: &mut [u16],
+    tape: &[u8],
+    record: u64,
+    h: usize,
     components: &mut [u8],
 )
-    requires { ⌜ ((Accepted (now r) (now s) (now x) × (length (now a) ≡ 29997)) × (length (now t) ≡ 6)) × ((9999 ≤ length (now at)) × Room (highestOf (file (now x)) (now t) n) (now lines) (now components)) ⌝ }
-    ensures written { λ _. ⌜ TakeBoth (hereUpTo (now (x .entry)) (now (t .entry)) n (file (now (x .entry)) .count)) (lineAt (now (r .entry)) (now (x .entry)) (now (t .entry)) n) (componentAt (now (r .entry)) (now (x .entry)) (now (t .entry)) n) (now (lines .entry)) (now (lines .exit)) (now (components .entry)) (now (components .exit)) ⌝ }
+    requires { ⌜ InSet (sheetOf how (now x))
+        × (Asked (now tape) «record» × ((h ≡ highestOf (sheetOf how (now x)) (now tape) «record») × (h ≤ length (now components)))) ⌝ }
+    ensures written { λ _. ⌜ now (components .exit)
+        ≡ filledComponents (sheetOf how (now (x .entry))) (now (tape .entry)) «record» (now (components .entry)) ⌝ }
 {
-    rows::write(Rows::Points, r, a);
-    seek::write_lasts(r, a, at);
-    put_lines(r, s, x, t, n, a, at, lines, components);
+    bytes::clear(h, components);
+    components::put_all(how, x, tape, record, components);
 }
 
 // Fills the spread table of an accepted set: place c - 1 takes the R line and the component of channel c, or 0 and 0, up to the
-// record's highest covered channel; later places stay. It takes two passes over X and one over R, and finds the receiver of each channel
-// among R's lines by halves.
+// record's highest covered channel; later places stay.
 pub fn fill(
+    how: Reading,
     r: &[u8],
-    s: &[u8],
     x: &[u8],
-    t: &[u8],
-    n: u64,
+    tape: &[u8],
+    record: u64,
     lines: &mut [u16],
     components: &mut [u8],
 )
-    requires { ⌜ ((fine ≡ run (rules (file (now r)) (file (now s)) (file (now x)))) × (recordAsked sps93 (now t) n ≡ true)) × ((highestOf (file (now x)) (now t) n ≤ length (now lines)) × (highestOf (file (now x)) (now t) n ≤ length (now components))) ⌝ }
-    ensures written { λ _. ⌜
-        (now (lines .exit) ≡ turns (place (λ c. lineOf (found (file (now (r .entry))) (file (now (x .entry))) (now (t .entry)) n c))) (highestOf (file (now (x .entry))) (now (t .entry)) n) (now (lines .entry)))
-        × (now (components .exit) ≡ turns (place (λ c. componentOf (found (file (now (r .entry))) (file (now (x .entry))) (now (t .entry)) n c))) (highestOf (file (now (x .entry))) (now (t .entry)) n) (now (components .entry)))
-        ⌝ }
+    requires { ⌜ (Accepted (sheetOf how (now r)) (sheetOf how (now x)) × Asked (now tape) «record»)
+        × ((highestOf (sheetOf how (now x)) (now tape) «record» ≤ length (now lines))
+        × (highestOf (sheetOf how (now x)) (now tape) «record» ≤ length (now components))) ⌝ }
+    ensures lines { λ _. ⌜ now (lines .exit)
+        ≡ filledLines place (sheetOf how (now (r .entry))) (sheetOf how (now (x .entry))) (now (tape .entry)) «record» (now (lines .entry)) ⌝ }
+    ensures components { λ _. ⌜ now (components .exit)
+        ≡ filledComponents (sheetOf how (now (x .entry))) (now (tape .entry)) «record» (now (components .entry)) ⌝ }
 {
-    let mut a = [0u64; 29997];
-    let mut at = [0u16; 9999];
-    places::clear(highest(x, t, n) as usize, lines, components);
-    write(r, s, x, t, n, &mut a, &mut at, lines, components);
+    let h = highest(how, x, tape, record) as usize;
+    fill_components(how, x, tape, record, h, components);
+    numbers::clear(h, lines);
+    put_numbers(how, r, x, tape, record, lines);
 }
 
 // The same where the lines are a byte slice, two bytes a number, low byte first.
 pub fn fill_bytes(
+    how: Reading,
     r: &[u8],
-    s: &[u8],
     x: &[u8],
-    t: &[u8],
-    n: u64,
+    tape: &[u8],
+    record: u64,
     lines: &mut [u8],
     components: &mut [u8],
 )
-    requires { ⌜ ((fine ≡ run (rules (file (now r)) (file (now s)) (file (now x)))) × (recordAsked sps93 (now t) n ≡ true)) × ((2 * highestOf (file (now x)) (now t) n ≤ length (now lines)) × (highestOf (file (now x)) (now t) n ≤ length (now components))) ⌝ }
-    ensures written { λ _. ⌜
-        (now (lines .exit) ≡ turns (bytePlace (λ c. lineOf (found (file (now (r .entry))) (file (now (x .entry))) (now (t .entry)) n c))) (highestOf (file (now (x .entry))) (now (t .entry)) n) (now (lines .entry)))
-        × (now (components .exit) ≡ turns (place (λ c. componentOf (found (file (now (r .entry))) (file (now (x .entry))) (now (t .entry)) n c))) (highestOf (file (now (x .entry))) (now (t .entry)) n) (now (components .entry)))
-        ⌝ }
+    requires { ⌜ (Accepted (sheetOf how (now r)) (sheetOf how (now x)) × Asked (now tape) «record»)
+        × ((2 * highestOf (sheetOf how (now x)) (now tape) «record» ≤ length (now lines))
+        × (highestOf (sheetOf how (now x)) (now tape) «record» ≤ length (now components))) ⌝ }
+    ensures lines { λ _. ⌜ now (lines .exit)
+        ≡ filledLines bytePlace (sheetOf how (now (r .entry))) (sheetOf how (now (x .entry))) (now (tape .entry)) «record» (now (lines .entry)) ⌝ }
+    ensures components { λ _. ⌜ now (components .exit)
+        ≡ filledComponents (sheetOf how (now (x .entry))) (now (tape .entry)) «record» (now (components .entry)) ⌝ }
 {
-    let mut numbers = [0u16; 9999];
-    fill(r, s, x, t, n, &mut numbers, components);
-    places::put_bytes(&numbers, highest(x, t, n) as usize, lines);
+    let h = highest(how, x, tape, record) as usize;
+    fill_components(how, x, tape, record, h, components);
+    bytes::clear(2 * h, lines);
+    put_bytes(how, r, x, tape, record, lines);
 }

@@ -1,38 +1,41 @@
 -- `spread::fill` meets its contract. Assumes nothing.
-use Prim.Native.Nat.{ℕ}
-use Rattle.rules.specs.Spread.{componentOf, lineOf}
-use Rattle.spread.proofs.Lines.{six}
+use Rattle.lines.specs.Reading.{sheetOf}
+use Rattle.rules.proofs.Turns.{turns-length}
+use Rattle.rules.specs.Spread.{lineOf, place}
+use Rattle.spread.proofs.Places.{numbers}
 use Rattle.spread.proofs.Whole.{whole}
+use Rattle.spread.specs.Taken.{lineAt}
 use borrow.Author.Needs.{needs}
-use lib.ListN.{length-replicate}
-use mathlib.Core.Path.{refl}
+use lib.ListN.{length}
+use mathlib.Core.Path.{_∙_, ap, refl}
 use native.Mathlib.Omega.{arith}
 use Rattle.spread.proofs.fill.Statement.{statement}
 use Rattle.spread.proofs.fill.Tie as tie
 
 highest-requires : tie.Need-highest-requires
-highest-requires c κs = search needs
+highest-requires c κs = (c .before .before .before .before .before .pre .0 .0 .relations, c .before .before .before .before .before .pre .0 .1)
+
+fill-components-requires : tie.Need-fill-components-requires
+fill-components-requires c κs =
+    let a = c .before .before .before .before .before .before .before .args in
+    let p = c .before .before .before .before .before .before .before .pre in
+    let e = c .before .highest .ensures in
+    let v = p .1 .1 in
+    ((sheetOf (a .how) (a .r .now), p .0 .0), (p .0 .1, (e, omega arith)))
 
 clear-requires : tie.Need-clear-requires
-clear-requires c κs = search needs
-
-slice-aggregate-write : tie.Need-slice-aggregate-write
-slice-aggregate-write c = search needs
-
-slice-aggregate-write-2 : tie.Need-slice-aggregate-write-2
-slice-aggregate-write-2 c = search needs
-
-write-requires : tie.Need-write-requires
-write-requires c κs =
-    let x = c .before .before .before .before .before .before .before .before .before .before .before .before .before .before .before .before .before .before .args in
-    let p = c .before .before .before .before .before .before .before .before .before .before .before .before .before .before .before .before .before .before .pre in
-    let w = c .before .before .before .before .before .before .before .before .clear .ensures in
-    let l = w .0 .size in
-    let m = w .1 .size in
+clear-requires c κs =
+    let p = c .before .before .before .before .before .before .before .before .before .before .before .pre in
+    let e = c .before .before .before .before .before .highest .ensures in
     let u = p .1 .0 in
-    let v = p .1 .1 in
-    let n = length-replicate {A = ℕ} 9999 0 in
-    (((p .0 .0, length-replicate {A = ℕ} 29997 0), six (x .t .now) (x .n) (p .0 .1)), (omega arith, (omega arith, omega arith)))
+    omega arith
+
+put-numbers-requires : tie.Need-put-numbers-requires
+put-numbers-requires c κs =
+    let p = c .before .before .before .before .before .before .before .before .before .before .before .before .before .before .before .pre in
+    let l = ap length (c .before .before .before .clear .ensures) ∙ turns-length (λ _. 0) _ _ in
+    let u = p .1 .0 in
+    (p .0 .0, (p .0 .1, omega arith))
 
 same-length : tie.Need-same-length
 same-length c = search needs
@@ -41,15 +44,15 @@ same-length-2 : tie.Need-same-length-2
 same-length-2 c = search needs
 
 returns : tie.Need-returns
-unfolding lineOf componentOf
+unfolding lineOf
 returns c =
-    let x = c .before .before .before .before .before .before .before .before .before .before .before .before .before .before .before .before .before .before .before .before .before .before .before .before .before .args in
-    let p = c .before .before .before .before .before .before .before .before .before .before .before .before .before .before .before .before .before .before .before .before .before .before .before .before .before .pre in
-    let e = c .before .before .before .before .before .before .before .before .before .before .before .before .before .before .before .before .before .before .highest .ensures in
-    let w = c .before .before .before .before .before .before .before .before .before .before .before .before .before .before .before .clear .ensures in
-    let u = c .before .before .before .before .before .before .write .ensures in (
-      whole (x .r .now) (x .x .now) (x .t .now) (x .n) lineOf refl _ _ _ (p .1 .0) (rw e at (w .0)) (u .0),
-      whole (x .r .now) (x .x .now) (x .t .now) (x .n) componentOf refl _ _ _ (p .1 .1) (rw e at (w .1)) (u .1),
+    let a = c .before .before .before .before .before .before .before .before .before .before .before .before .before .before .before .before .before .before .args in
+    let p = c .before .before .before .before .before .before .before .before .before .before .before .before .before .before .before .before .before .before .pre in
+    let e = c .before .before .before .before .before .before .before .before .before .before .before .before .highest .ensures in
+    let l = ap length (c .before .before .before .before .before .before .clear .ensures) ∙ turns-length (λ _. 0) _ _ in
+    let u = p .1 .0 in (
+      whole (sheetOf (a .how) (a .r .now)) (sheetOf (a .how) (a .x .now)) (a .tape .now) (a .«record») lineOf refl (lineAt (sheetOf (a .how) (a .r .now)) (sheetOf (a .how) (a .x .now)) (a .tape .now) (a .«record»)) (λ i. refl) place numbers _ _ e (omega arith) _ _ _ (c .before .before .before .before .before .before .clear .ensures) (c .before .before .put-numbers .ensures),
+      c .before .before .before .before .before .before .before .before .before .before .fill-components .ensures,
     )
 
 pub fill-spec : {M : Type 1} → statement M
@@ -57,10 +60,9 @@ fill-spec =
     tie.close
     (tie.spec
     highest-requires
+    fill-components-requires
     clear-requires
-    slice-aggregate-write
-    slice-aggregate-write-2
-    write-requires
+    put-numbers-requires
     same-length
     same-length-2
     returns)

@@ -1,34 +1,48 @@
 -- `spread::fill_bytes` meets its contract. Assumes nothing.
-use Rattle.spread.proofs.Bytes.{all-bytes, all-there, at-most}
+use Rattle.lines.specs.Reading.{sheetOf}
+use Rattle.rules.proofs.Turns.{turns-length}
+use Rattle.rules.specs.Spread.{bytePlace, lineOf}
+use Rattle.spread.proofs.Places.{bytes, bytes-cleared}
+use Rattle.spread.proofs.Whole.{highest-small, whole}
+use Rattle.spread.specs.Taken.{lineAt}
 use borrow.Author.Needs.{needs}
+use lib.ListN.{length}
+use mathlib.Core.Path.{_∙_, ap, refl}
 use native.Mathlib.Omega.{arith}
 use Rattle.spread.proofs.fill_bytes.Statement.{statement}
 use Rattle.spread.proofs.fill_bytes.Tie as tie
 
-slice-aggregate-fill : tie.Need-slice-aggregate-fill
-slice-aggregate-fill c = search needs
-
-fill-requires : tie.Need-fill-requires
-fill-requires c κs =
-    let x = c .before .before .before .before .before .before .before .before .args in
-    let p = c .before .before .before .before .before .before .before .before .pre in
-    let v = p .1 .1 in
-    (p .0, (at-most (x .r .now) (x .s .now) (x .x .now) (x .t .now) (x .n) (p .0 .0), omega arith))
-
-slice-aggregate-put-bytes : tie.Need-slice-aggregate-put-bytes
-slice-aggregate-put-bytes c = search needs
-
 highest-requires : tie.Need-highest-requires
-highest-requires c κs = search needs
+highest-requires c κs = (c .before .before .before .before .before .pre .0 .0 .relations, c .before .before .before .before .before .pre .0 .1)
+
+fill-components-requires : tie.Need-fill-components-requires
+fill-components-requires c κs =
+    let a = c .before .before .before .before .before .before .before .args in
+    let p = c .before .before .before .before .before .before .before .pre in
+    let e = c .before .highest .ensures in
+    let v = p .1 .1 in
+    ((sheetOf (a .how) (a .r .now), p .0 .0), (p .0 .1, (e, omega arith)))
+
+mul-clear : tie.Need-mul-clear
+mul-clear c =
+    let e = c .before .before .before .before .highest .ensures in
+    let a = c .before .before .before .before .before .before .before .before .before .before .args in
+    let u = highest-small (sheetOf (a .how) (a .x .now)) (a .tape .now) (a .«record») (c .before .before .before .before .before .before .before .before .before .before .pre .0 .0 .relations) in
+    omega arith
+
+clear-requires : tie.Need-clear-requires
+clear-requires c κs =
+    let p = c .before .before .before .before .before .before .before .before .before .before .before .pre in
+    let e = c .before .before .before .before .before .highest .ensures in
+    let u = p .1 .0 in
+    omega arith
 
 put-bytes-requires : tie.Need-put-bytes-requires
 put-bytes-requires c κs =
-    let x = c .before .before .before .before .before .before .before .before .before .before .before .before .before .before .before .args in
     let p = c .before .before .before .before .before .before .before .before .before .before .before .before .before .before .before .pre in
-    let e = c .before .highest .ensures in
+    let l = ap length (c .before .before .before .clear .ensures) ∙ turns-length (λ _. 0) _ _ in
     let u = p .1 .0 in
-    let m = all-there (x .r .now) (x .s .now) (x .x .now) (x .t .now) (x .n) (p .0 .0) _ (c .before .before .before .before .before .before .fill .ensures .0) in
-    (omega arith, omega arith)
+    (p .0 .0, (p .0 .1, omega arith))
 
 same-length : tie.Need-same-length
 same-length c = search needs
@@ -37,20 +51,25 @@ same-length-2 : tie.Need-same-length-2
 same-length-2 c = search needs
 
 returns : tie.Need-returns
+unfolding lineOf
 returns c =
-    let x = c .before .before .before .before .before .before .before .before .before .before .before .before .before .before .before .before .before .before .args in
+    let a = c .before .before .before .before .before .before .before .before .before .before .before .before .before .before .before .before .before .before .args in
     let p = c .before .before .before .before .before .before .before .before .before .before .before .before .before .before .before .before .before .before .pre in
-    let f = c .before .before .before .before .before .before .before .before .before .fill .ensures in
-    (all-bytes (x .r .now) (x .s .now) (x .x .now) (x .t .now) (x .n) (p .0 .0) _ (f .0) _ (c .before .before .before .before .highest .ensures) _ _ (c .before .before .put-bytes .ensures), f .1)
+    let e = c .before .before .before .before .before .before .before .before .before .before .before .before .highest .ensures in
+    let l = ap length (c .before .before .before .before .before .before .clear .ensures) ∙ turns-length (λ _. 0) _ _ in
+    let u = p .1 .0 in (
+      whole (sheetOf (a .how) (a .r .now)) (sheetOf (a .how) (a .x .now)) (a .tape .now) (a .«record») lineOf refl (lineAt (sheetOf (a .how) (a .r .now)) (sheetOf (a .how) (a .x .now)) (a .tape .now) (a .«record»)) (λ i. refl) bytePlace bytes _ _ e (omega arith) _ _ _ (c .before .before .before .before .before .before .clear .ensures ∙ bytes-cleared (c .before .before .before .before .before .before .before .before .before .before .before .before .highest .result) (a .lines .now)) (c .before .before .put-bytes .ensures),
+      c .before .before .before .before .before .before .before .before .before .before .fill-components .ensures,
+    )
 
 pub fill-bytes-spec : {M : Type 1} → statement M
 fill-bytes-spec =
     tie.close
     (tie.spec
-    slice-aggregate-fill
-    fill-requires
-    slice-aggregate-put-bytes
     highest-requires
+    fill-components-requires
+    mul-clear
+    clear-requires
     put-bytes-requires
     same-length
     same-length-2

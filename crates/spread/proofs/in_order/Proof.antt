@@ -1,0 +1,31 @@
+-- `spread::in_order` meets its contract. Assumes nothing.
+use Prim.Native.Nat.{ℕ}
+use Rattle.lines.specs.Reading.{sheetOf}
+use Rattle.spread.proofs.Rows.{rows-first, sortable}
+use borrow.Author.Needs.{needs}
+use lib.ListN.{length-replicate, replicate}
+use Rattle.spread.proofs.in_order.Statement.{statement}
+use Rattle.spread.proofs.in_order.Tie as tie
+
+slice-aggregate-in-order : tie.Need-slice-aggregate-in-order
+slice-aggregate-in-order c = search needs
+
+in-order-requires : tie.Need-in-order-requires
+in-order-requires c κs =
+    let a = c .before .before .before .before .args in
+    sortable (sheetOf (a .how) (a .r .now)) (a .o .now) (replicate 9999 0) (c .before .before .before .before .pre .0) (c .before .before .before .before .pre .1) (length-replicate {A = ℕ} 9999 0)
+
+same-length : tie.Need-same-length
+same-length c = search needs
+
+returns : tie.Need-returns
+returns c = rows-first _ _ _ (c .before .before .before .in-order .ensures)
+
+pub in-order-spec : {M : Type 1} → statement M
+in-order-spec =
+    tie.close
+    (tie.spec
+    slice-aggregate-in-order
+    in-order-requires
+    same-length
+    returns)
