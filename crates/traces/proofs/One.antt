@@ -7,30 +7,34 @@ use Rattle.traces.specs.declared.Answer.the-variants.{Trace, Channel, No
 use Rattle.traces.specs.declared.Spread.{Spread}
 use Rattle.traces.specs.declared.Spread.the-variants.{Highest, Refused as Denied}
 use Rattle.traces.specs.Paper.{paper, paperSpread}
-use Rattle.traces.proofs.spread_table as spread-table
-use Rattle.traces.proofs.spread_table.Reads as spread-table-reads
-use Rattle.traces.proofs.spread_bytes as spread-bytes
-use Rattle.traces.proofs.spread_bytes.Reads as spread-bytes-reads
 use Rattle.traces.proofs.asked.record as asked-record
 use Rattle.traces.proofs.asked.record.Reads as asked-record-reads
 use Rattle.traces.proofs.asked.channel as asked-channel
 use Rattle.traces.proofs.asked.channel.Reads as asked-channel-reads
 use Rattle.traces.proofs.asked.receiver as asked-receiver
 use Rattle.traces.proofs.asked.receiver.Reads as asked-receiver-reads
-use Rattle.traces.proofs.asked.tape as asked-tape
-use Rattle.traces.proofs.asked.tape.Reads as asked-tape-reads
-use Rattle.traces.proofs.forth.carrier as carrier
-use Rattle.traces.proofs.forth.carrier.Reads as carrier-reads
-use Rattle.traces.proofs.forth.receiver_line as receiver-line
-use Rattle.traces.proofs.forth.receiver_line.Reads as receiver-line-reads
-use Rattle.traces.proofs.back.is_receiver as is-receiver
-use Rattle.traces.proofs.back.is_receiver.Reads as is-receiver-reads
-use Rattle.traces.proofs.back.reacher as reacher
-use Rattle.traces.proofs.back.reacher.Reads as reacher-reads
+use Rattle.traces.proofs.forth.carrier as forth-carrier
+use Rattle.traces.proofs.forth.carrier.Reads as forth-carrier-reads
+use Rattle.traces.proofs.forth.receiver_line as forth-receiver-line
+use Rattle.traces.proofs.forth.receiver_line.Reads as forth-receiver-line-reads
+use Rattle.traces.proofs.back.reacher as back-reacher
+use Rattle.traces.proofs.back.reacher.Reads as back-reacher-reads
+use Rattle.traces.proofs.trace_on as trace-on
+use Rattle.traces.proofs.trace_on.Reads as trace-on-reads
 use Rattle.traces.proofs.trace as trace
 use Rattle.traces.proofs.trace.Reads as trace-reads
+use Rattle.traces.proofs.channel_on as channel-on
+use Rattle.traces.proofs.channel_on.Reads as channel-on-reads
 use Rattle.traces.proofs.channel as channel
 use Rattle.traces.proofs.channel.Reads as channel-reads
+use Rattle.traces.proofs.spread_on as spread-on
+use Rattle.traces.proofs.spread_on.Reads as spread-on-reads
+use Rattle.traces.proofs.spread_table as spread-table
+use Rattle.traces.proofs.spread_table.Reads as spread-table-reads
+use Rattle.traces.proofs.bytes_on as bytes-on
+use Rattle.traces.proofs.bytes_on.Reads as bytes-on-reads
+use Rattle.traces.proofs.spread_bytes as spread-bytes
+use Rattle.traces.proofs.spread_bytes.Reads as spread-bytes-reads
 
 pub answer-one : (a b : Answer) → paper a ≡ paper b → a ≡ b
 answer-one (Trace l m) (Trace l′ m′) e = cc
@@ -59,23 +63,23 @@ asked-channel-one κs a v v′ w w′ p p′ = (p ∙ sym p′, refl)
 pub asked-receiver-one : One asked-receiver.ended asked-receiver-reads.Post
 asked-receiver-one κs a v v′ w w′ p p′ = (p ∙ sym p′, refl)
 
-pub asked-tape-one : One asked-tape.ended asked-tape-reads.Post
-asked-tape-one κs a v v′ w w′ p p′ = (p ∙ sym p′, refl)
+pub forth-carrier-one : One forth-carrier.ended forth-carrier-reads.Post
+forth-carrier-one κs a v v′ w w′ p p′ = (p ∙ sym p′, refl)
 
-pub carrier-one : One carrier.ended carrier-reads.Post
-carrier-one κs a v v′ w w′ p p′ = (p ∙ sym p′, refl)
+pub forth-receiver-line-one : One forth-receiver-line.ended forth-receiver-line-reads.Post
+forth-receiver-line-one κs a v v′ w w′ p p′ = (p ∙ sym p′, refl)
 
-pub receiver-line-one : One receiver-line.ended receiver-line-reads.Post
-receiver-line-one κs a v v′ w w′ p p′ = (p ∙ sym p′, refl)
+pub back-reacher-one : One back-reacher.ended back-reacher-reads.Post
+back-reacher-one κs a v v′ w w′ p p′ = (p ∙ sym p′, refl)
 
-pub is-receiver-one : One is-receiver.ended is-receiver-reads.Post
-is-receiver-one κs a v v′ w w′ p p′ = (p ∙ sym p′, refl)
-
-pub reacher-one : One reacher.ended reacher-reads.Post
-reacher-one κs a v v′ w w′ p p′ = (p ∙ sym p′, refl)
+pub trace-on-one : One trace-on.ended trace-on-reads.Post
+trace-on-one κs a v v′ w w′ p p′ = (answer-one v v′ (p ∙ sym p′), refl)
 
 pub trace-one : One trace.ended trace-reads.Post
 trace-one κs a v v′ w w′ p p′ = (answer-one v v′ (p ∙ sym p′), refl)
+
+pub channel-on-one : One channel-on.ended channel-on-reads.Post
+channel-on-one κs a v v′ w w′ p p′ = (answer-one v v′ (p ∙ sym p′), refl)
 
 pub channel-one : One channel.ended channel-reads.Post
 channel-one κs a v v′ w w′ p p′ = (answer-one v v′ (p ∙ sym p′), refl)
@@ -86,14 +90,26 @@ spread-one (Highest h) (Denied n′ f′ l′ c′) e = cc
 spread-one (Denied n f l c) (Highest h′) e = cc
 spread-one (Denied n f l c) (Denied n′ f′ l′ c′) e = cc
 
+pub spread-on-one : One spread-on.ended spread-on-reads.Post
+spread-on-one κs a v v′ w w′ p p′ = (
+  spread-one v v′ (p .answer ∙ sym (p′ .answer)),
+  both refl (both refl (both refl (both refl (both refl (both (p .lines ∙ sym (p′ .lines)) (both (p .components ∙ sym (p′ .components)) refl)))))),
+)
+
 pub spread-table-one : One spread-table.ended spread-table-reads.Post
 spread-table-one κs a v v′ w w′ p p′ = (
-  spread-one v v′ (p .0 ∙ sym (p′ .0)),
-  both refl (both refl (both refl (both refl (both refl (both (p .1 .0 ∙ sym (p′ .1 .0)) (both (p .1 .1 ∙ sym (p′ .1 .1)) refl)))))),
+  spread-one v v′ (p .answer ∙ sym (p′ .answer)),
+  both refl (both refl (both refl (both refl (both refl (both (p .lines ∙ sym (p′ .lines)) (both (p .components ∙ sym (p′ .components)) refl)))))),
+)
+
+pub bytes-on-one : One bytes-on.ended bytes-on-reads.Post
+bytes-on-one κs a v v′ w w′ p p′ = (
+  spread-one v v′ (p .answer ∙ sym (p′ .answer)),
+  both refl (both refl (both refl (both refl (both refl (both (p .lines ∙ sym (p′ .lines)) (both (p .components ∙ sym (p′ .components)) refl)))))),
 )
 
 pub spread-bytes-one : One spread-bytes.ended spread-bytes-reads.Post
 spread-bytes-one κs a v v′ w w′ p p′ = (
-  spread-one v v′ (p .0 ∙ sym (p′ .0)),
-  both refl (both refl (both refl (both refl (both refl (both (p .1 .0 ∙ sym (p′ .1 .0)) (both (p .1 .1 ∙ sym (p′ .1 .1)) refl)))))),
+  spread-one v v′ (p .answer ∙ sym (p′ .answer)),
+  both refl (both refl (both refl (both refl (both refl (both (p .lines ∙ sym (p′ .lines)) (both (p .components ∙ sym (p′ .components)) refl)))))),
 )

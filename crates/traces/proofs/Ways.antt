@@ -1,162 +1,147 @@
 -- The way back, by what the code finds in a line of R and a line of X.
-use Prim.Native.Nat.{ℕ, _+_, _-_, _*_, _≤_, _<_}
+use Prim.Native.Nat.{ℕ, _+_, _-_, _≤_, _<_}
 use native.Mathlib.Omega.{arith}
 use mathlib.Core.Path.{_≡_, refl, sym, ap, ap₂, _∙_}
 use mathlib.Core.Logic.{⊎-elim}
-use mathlib.Core.Bool.{Bool, true, false, not, _&&_}
+use mathlib.Core.Bool.{Bool, true, false, _&&_}
 use mathlib.Core.List.{List}
-use lib.Dec.{eqb, leb, lit≤}
-use borrow.Author.Tests.{eq-eqb, ne-eqb, le-leb, lt-leb, lt-ltb, le-ltb}
+use borrow.Author.Tests.{le-leb, lt-leb, lt-ltb, le-ltb}
 use Rattle.rules.specs.Places.{pick}
-use Rattle.rules.specs.Text.{col, cols}
+use Rattle.rules.specs.Plan.{fileX}
+use Rattle.rules.specs.Text.{cols}
 use Rattle.rules.specs.Numbers.{size, whole}
-use Rattle.rules.specs.Kinds.{indexOf}
-use Rattle.rules.specs.Names.{text, sameName}
 use Rattle.rules.specs.Layout.{sps93, at}
-use Rattle.rules.specs.Disc.{disc, file}
-use Rattle.rules.specs.Lines.{isHeader, isMarker, isData, isPoint}
-use Rattle.rules.specs.Points.{point, pointAt, nameOf, numberOf, indexAt}
-use Rattle.rules.specs.Relations.{reach, reachAt}
+use Rattle.rules.specs.Sheet.{Sheet}
+use Rattle.rules.specs.Lines.{isPoint}
+use Rattle.rules.specs.Points.{point, pointAt, numberOf}
+use Rattle.rules.specs.Relations.{reachAt}
 use Rattle.rules.specs.Cover.{covers, channelOf}
 use Rattle.rules.specs.Reaches.{reachesOf, search}
 use Rattle.rules.specs.Check.{channel, noTrace}
 use Rattle.rules.specs.Lookup.{reaches, foundBack}
+use Rattle.rules.proofs.Tests.{clash, agree}
 use Rattle.rules.proofs.Form.{data-is}
-use Rattle.rules.proofs.Cover.{carried}
+use Rattle.rules.proofs.Cover.{covers-is, carried}
+use Rattle.rules.proofs.Order.{at-is}
 use Rattle.rules.proofs.Search.{search-is}
 use Rattle.rules.proofs.Traces.{leads-is}
-use Rattle.fields.specs.Packed.{nameOf as numbersOf}
-use Rattle.fields.specs.Texts.{Small}
-use Rattle.fields.specs.declared.Name.{Name}
+use Rattle.lines.specs.Reading.{sheetOf}
+use Rattle.lines.specs.declared.Reading.{Reading}
+use Rattle.lines.proofs.Sheets.{layout-is}
+use Rattle.form.specs.Known.{Known}
+use Rattle.form.proofs.Known.{point-number, upto-small}
 use Rattle.records.specs.Coded.{codedReach}
 use Rattle.records.specs.declared.relation.Reach.{Reach as Numbers}
-use Rattle.fields.proofs.Texts.{cols-long, names-equal}
-use Rattle.traces.specs.Steps.{Accepted}
-use Rattle.traces.proofs.Sets.{sound-line}
+use Rattle.keys.specs.Held.{RelationLine}
+use Rattle.keys.specs.Compare.{sameKey}
+use Rattle.keys.specs.Keys.{receiverKey}
+use Rattle.keys.specs.Keyed.{takesAt, keyAt}
+use Rattle.keys.specs.declared.By.the-variants.{Receivers}
+use Rattle.keys.specs.declared.Key.{Key}
+use Rattle.keys.proofs.Lines.{takes-receiver}
+use Rattle.keys.proofs.Points.{receiver-is}
+use Rattle.spread.specs.Asked.{Accepted}
+use Rattle.spread.proofs.Asked.{sound-line}
+use Rattle.traces.specs.Steps.{ReceiverLine}
 
--- a line of R is a receiver
-module _ (r l : List ℕ) (i : ℕ) (e : l ≡ file r .row i) (d : Bool) (s : d ≡ isHeader l) where
-  pub header-line : d ≡ true → false ≡ isPoint (file r) i
-  unfolding isPoint isData
-  header-line z = rw (← e, ← s, z)
+-- the number of the receiver in line i
+pub number-read : (how : Reading) (r : List ℕ) (i : ℕ) (l : List ℕ) (n : ℕ) → l ≡ sheetOf how r .row i → n ≡ size (whole (cols l 18 25))
+    → n ≡ pointAt (sheetOf how r) i .number
+unfolding pointAt point numberOf at sps93
+number-read how r i l n e f = f ∙ (rw (layout-is how r, e))
 
-  pub unless-marker : d ≡ false → (b : Bool) → b ≡ isMarker sps93 l → not b ≡ isPoint (file r) i
-  unfolding isPoint isData disc
-  unless-marker z b q = rw (← e, ← s, z, ← q)
+-- relation line k and the receiver in line i
+module _ (r x : Sheet) (i k m : ℕ) (wr : ReceiverLine r i) (wx : Known 3 x) (h : RelationLine x k) (n : ℕ) (en : n ≡ pointAt r i .number) where
+  abbrev Reaches : Bool
+  Reaches = reaches (pointAt r i) m (reachAt x k)
 
--- the increment of a relation line
-step-is : (y : List ℕ) → indexOf (col (cols y 47 47) 1) ≡ reach sps93 y .step
-unfolding reach indexAt at sps93
-step-is y = refl
+  pub number-small : n < 4294967296
+  number-small = let a = point-number 1 r (wr .0) i (wr .1 .0) in omega arith
 
--- the relation of line y and the receiver of line l
-module _ (l y : List ℕ) (m : ℕ) (sl : Small l) (sy : Small y) (a b : Name) (ea : a ≡ numbersOf (text (cols y 48 63)))
-    (eb : b ≡ numbersOf (text (cols l 2 17))) (i : Bool) (ei : i ≡ (eqb (a .hi) (b .hi) && eqb (a .lo) (b .lo))) where
-  one-name : sameName (reach sps93 y .receiver) (point sps93 l .name) ≡ i
-  unfolding reach point nameOf at sps93
-  one-name =
-      sym (names-equal _ _ (cols-long y sy 16 48 (lit≤ tt)) (cols-long l sl 16 2 (lit≤ tt))) ∙ sym (ei ∙ (rw (ea, eb)))
+  no : (b : Bool) → (b ≡ true → ⊥) → false ≡ b
+  no true f = absurd (f refl)
+  no false f = refl
 
-  pub name-apart : i ≡ false → false ≡ reaches (point sps93 l) m (reach sps93 y)
-  unfolding reaches
-  name-apart z = rw (one-name, z)
+  pub not-covered : (b : Bool) → b ≡ covers (reachAt x k) n → b ≡ false → false ≡ Reaches
+  not-covered b e z =
+      no _
+      (λ t.
+      let w = leads-is (pointAt r i) m (reachAt x k) .0 t .1 .1 .0 in
+      clash (sym z ∙ e ∙ ap (covers (reachAt x k)) en ∙ covers-is (reachAt x k) (pointAt r i .number) .1 w))
 
-  module _ (z : i ≡ true) (u v : ℕ) (eu : u ≡ indexOf (col (cols y 80 80) 1)) (ev : v ≡ indexOf (col (cols l 26 26) 1)) where
-    one-index : eqb (reach sps93 y .receiverIndex) (point sps93 l .index) ≡ eqb u v
-    unfolding reach point indexAt at sps93
-    one-index = sym (ap₂ eqb eu ev)
+  pub no-component : m < 1 → false ≡ Reaches
+  no-component z = no _ (λ t. let w = leads-is (pointAt r i) m (reachAt x k) .0 t .1 .1 .1 .0 in omega arith)
 
-    pub index-apart : (u ≡ v → ⊥) → false ≡ reaches (point sps93 l) m (reach sps93 y)
-    unfolding reaches
-    index-apart n = rw (one-name, z, one-index, ne-eqb u v n)
+  pub too-high : (s : ℕ) → s ≡ reachAt x k .step → s < m → false ≡ Reaches
+  too-high s e z = no _ (λ t. let w = leads-is (pointAt r i) m (reachAt x k) .0 t .1 .1 .1 .1 in omega arith)
 
-    module _ (w : u ≡ v) (p f : ℕ) (ep : p ≡ size (whole (cols l 18 25))) (ef : f ≡ size (whole (cols y 64 71))) where
-      number-is : point sps93 l .number ≡ p
-      unfolding point numberOf at sps93
-      number-is = sym ep
-
-      from-is : reach sps93 y .fromReceiver ≡ f
-      unfolding reach numberOf at sps93
-      from-is = sym ef
-
-      pub before-first : p < f → false ≡ reaches (point sps93 l) m (reach sps93 y)
-      unfolding reaches covers
-      before-first h = rw (one-name, z, one-index, eq-eqb u v w, number-is, from-is, lt-leb f p h)
-
-      module _ (g : f ≤ p) (o : ℕ) (eo : o ≡ size (whole (cols y 72 79))) where
-        upto-is : reach sps93 y .toReceiver ≡ o
-        unfolding reach numberOf at sps93
-        upto-is = sym eo
-
-        pub after-last : o < p → false ≡ reaches (point sps93 l) m (reach sps93 y)
-        unfolding reaches covers
-        after-last h = rw (one-name, z, one-index, eq-eqb u v w, number-is, from-is, le-leb f p g, upto-is, lt-leb p o h)
-
-        module _ (h : p ≤ o) where
-          pub no-component : m < 1 → leb 1 m ≡ reaches (point sps93 l) m (reach sps93 y)
-          unfolding reaches covers
-          no-component k = rw (one-name, z, one-index, eq-eqb u v w, number-is, from-is, le-leb f p g, upto-is, le-leb p o h, lt-leb 1 m k)
-
-          pub by-component : 1 ≤ m → (t : ℕ) → t ≡ indexOf (col (cols y 47 47) 1) → leb m t ≡ reaches (point sps93 l) m (reach sps93 y)
-          unfolding reaches covers
-          by-component k t et =
-              rw (one-name, z, one-index, eq-eqb u v w, number-is, from-is, le-leb f p g, upto-is, le-leb p o h, le-leb 1 m k) (ap (leb m) (et ∙ step-is y))
-
--- line k of X and line i of R
-pub reaches-at : (r x l y : List ℕ) (i k m : ℕ) → l ≡ file r .row i → y ≡ file x .row k
-    → reaches (point sps93 l) m (reach sps93 y) ≡ reaches (pointAt (file r) i) m (reachAt (file x) k)
-unfolding pointAt reachAt disc
-reaches-at r x l y i k m e f = rw (e, f)
+  pub by-key : (b : Bool) → b ≡ covers (reachAt x k) n → b ≡ true → 1 ≤ m → (s : ℕ) → s ≡ reachAt x k .step → m ≤ s → (y : Key)
+      → y ≡ receiverKey (x .layout) (x .row k) n → (d : Bool) → d ≡ sameKey (keyAt Receivers r i) y → d ≡ Reaches
+  by-key b e z o s es u y ey d ed =
+      ed ∙ ap (sameKey (keyAt Receivers r i)) ey
+      ∙ receiver-is 1 r (wr .0) (λ z. omega arith) i (wr .1 .0) (wr .1 .1) x wx k (h .0) (h .1) n number-small
+      ∙ agree _ _
+      (λ t.
+      let w = at-is (reachAt x k .receiver) n (reachAt x k .receiverIndex) (pointAt r i) .0 t in
+      let c = covers-is (reachAt x k) (pointAt r i .number) .0 (ap (covers (reachAt x k)) (sym en) ∙ sym e ∙ z) in
+      leads-is (pointAt r i) m (reachAt x k) .1 (sym (w .0), (sym (w .1 .1), (c, (o, omega arith)))))
+      (λ t.
+      let w = leads-is (pointAt r i) m (reachAt x k) .0 t in
+      at-is (reachAt x k .receiver) n (reachAt x k .receiverIndex) (pointAt r i) .1 (sym (w .0), (sym en, sym (w .1 .0))))
 
 -- the channel of a line that reaches the receiver
-module _ (r s x l y : List ℕ) (ok : Accepted r s x) (j m k : ℕ) (h : k < file x .count) (e : isData (file x) k ≡ true)
-    (w : reaches (pointAt (file r) j) m (reachAt (file x) k) ≡ true) (el : l ≡ file r .row j) (ey : y ≡ file x .row k)
-    (q : Numbers) (f : q ≡ codedReach (reach sps93 y)) (p : ℕ) (ep : p ≡ size (whole (cols l 18 25))) where
-  reads : q ≡ codedReach (reachAt (file x) k)
-  unfolding reachAt disc
-  reads = f ∙ ap (λ (l : List ℕ). codedReach (reach sps93 l)) ey
+module _ (r x : Sheet) (ok : Accepted r x) (i k m : ℕ) (wr : ReceiverLine r i) (h : RelationLine x k)
+    (t : reaches (pointAt r i) m (reachAt x k) ≡ true) (q : Numbers) (f : q ≡ codedReach (reachAt x k)) (n : ℕ) (en : n ≡ pointAt r i .number) where
+  pub may-return : (q .«from_receiver» ≤ n) × ((n < 4294967296) × ((q .step < 256) × ((1 ≤ m) × (m < 4294967296))))
+  may-return =
+      let v = leads-is (pointAt r i) m (reachAt x k) .0 t .1 .1 in
+      let a = v .0 .0 in
+      let b = point-number 1 r (wr .0) i (wr .1 .0) in
+      let d = sound-line r x ok k h .few in
+      let o = v .1 .0 in
+      let u = v .1 .1 in
+      rw f (omega arith, (omega arith, (omega arith, (o, omega arith))))
 
-  number-read : p ≡ pointAt (file r) j .number
-  unfolding pointAt point numberOf at sps93 disc
-  number-read = ep ∙ (rw el)
+  pub channel-small : channelOf (reachAt x k) (pointAt r i .number) m < 4294967296
+  channel-small =
+      let v = leads-is (pointAt r i) m (reachAt x k) .0 t .1 .1 in
+      let a = carried _ (reachAt x k) (sound-line r x ok k h) (pointAt r i .number) m v .1 in
+      let b = upto-small 3 x (ok .relations) k (h .0) in
+      omega arith
 
-  pub in-reach : (q .«from_receiver» ≤ p) × ((1 ≤ m) × (q .from + (p - q .«from_receiver») * q .step + (m - 1) < 10000))
-  unfolding channelOf
-  in-reach =
-      let v = leads-is (pointAt (file r) j) m (reachAt (file x) k) .0 w .1 .1 in
-      let d = sound-line r s x ok k h e in
-      let a = carried 9999 (reachAt (file x) k) d (pointAt (file r) j .number) m v .1 in
-      let b = d .most in
-      rw (reads, number-read) (v .0 .0, (v .1 .0, omega arith))
-
-  pub channel-is : channel (q .from + (p - q .«from_receiver») * q .step + (m - 1))
-      ≡ channel (channelOf (reachAt (file x) k) (pointAt (file r) j .number) m)
-  unfolding channelOf
-  channel-is = rw (reads, number-read)
-
--- the line that the search finds
-pub reacher-is : (r x t : List ℕ) (n i m k : ℕ) → k ≡ search (reachesOf (file x)) t n (reaches (pointAt (file r) i) m) → k < file x .count
-    → (isData (file x) k ≡ true) × (reaches (pointAt (file r) i) m (reachAt (file x) k) ≡ true)
-reacher-is r x t n i m k e h =
-    ⊎-elim (λ w. rw e (data-is (file x) _ .1 (w .1 .0 .0), w .1 .1)) (λ w. let z = w .0 in absurd (omega arith))
-    (search-is (file x) t n (reaches (pointAt (file r) i) m))
+  pub channel-is : (c : ℕ) → c ≡ channelOf (reachAt x k) n m → c ≡ channelOf (reachAt x k) (pointAt r i .number) m
+  channel-is c e = e ∙ ap (λ (n : ℕ). channelOf (reachAt x k) n m) en
 
 -- found, or not
-module _ (r x t : List ℕ) (n j m : ℕ) where
-  pub beyond-file : file r .count < j → noTrace ≡ foundBack (file r) (file x) t n j m
+module _ (r x : Sheet) (t : List ℕ) (n j m : ℕ) where
+  pub beyond-file : r .count < j → noTrace ≡ foundBack r x t n j m
   unfolding foundBack pick
-  beyond-file l = rw (le-leb 1 j (omega arith), lt-leb j (file r .count) l)
+  beyond-file l = rw (le-leb 1 j (omega arith), lt-leb j (r .count) l)
 
-  module _ (o : 1 ≤ j) (l : j ≤ file r .count) (i : ℕ) (z : i ≡ j - 1) (b : Bool) (q : b ≡ isPoint (file r) i) where
-    pub no-point : b ≡ false → noTrace ≡ foundBack (file r) (file x) t n j m
+  module _ (o : 1 ≤ j) (l : j ≤ r .count) (i : ℕ) (z : i ≡ j - 1) (b : Bool) (q : b ≡ takesAt Receivers r i) where
+    point-is : isPoint r (j - 1) ≡ b
+    point-is = ap (isPoint r) (sym z) ∙ sym (takes-receiver r i (omega arith)) ∙ sym q
+
+    pub no-point : b ≡ false → noTrace ≡ foundBack r x t n j m
     unfolding foundBack pick
-    no-point y = rw (le-leb 1 j o, le-leb j (file r .count) l, ← z, ← q, y)
+    no-point y = rw (le-leb 1 j o, le-leb j (r .count) l, point-is, y)
 
-    module _ (y : b ≡ true) (k : ℕ) (e : k ≡ search (reachesOf (file x)) t n (reaches (pointAt (file r) i) m)) (c : ℕ) (d : c ≡ file x .count) where
-      pub none-reaches : c ≤ k → noTrace ≡ foundBack (file r) (file x) t n j m
-      unfolding foundBack pick
-      none-reaches g = rw (le-leb 1 j o, le-leb j (file r .count) l, ← z, ← q, y, ← e, le-ltb k (file x .count) (omega arith))
+    module _ (y : b ≡ true) where
+      pub receiver-line : Known 1 r → ReceiverLine r i
+      receiver-line w = (w, (omega arith, ap (isPoint r) z ∙ point-is ∙ y))
 
-      pub one-reaches : k < c → channel (channelOf (reachAt (file x) k) (pointAt (file r) i .number) m) ≡ foundBack (file r) (file x) t n j m
-      unfolding foundBack pick
-      one-reaches g = rw (le-leb 1 j o, le-leb j (file r .count) l, ← z, ← q, y, ← e, lt-ltb k (file x .count) (omega arith))
+      module _ (k : ℕ) (e : k ≡ search (reachesOf x) t n (reaches (pointAt r i) m)) (c : ℕ) (d : c ≡ x .count) where
+        pub none-reaches : c ≤ k → noTrace ≡ foundBack r x t n j m
+        unfolding foundBack pick
+        none-reaches g = rw (le-leb 1 j o, le-leb j (r .count) l, point-is, y, ← z, ← e, le-ltb k (x .count) (omega arith))
+
+        module _ (g : k < c) where
+          pub one-reaches : channel (channelOf (reachAt x k) (pointAt r i .number) m) ≡ foundBack r x t n j m
+          unfolding foundBack pick
+          one-reaches = rw (le-leb 1 j o, le-leb j (r .count) l, point-is, y, ← z, ← e, lt-ltb k (x .count) (omega arith))
+
+          -- the line that the search finds
+          pub reacher-is : RelationLine x k × (reaches (pointAt r i) m (reachAt x k) ≡ true)
+          reacher-is =
+              ⊎-elim (λ w. ((omega arith, rw e (data-is x _ .1 (w .1 .0 .0))), rw e (w .1 .1))) (λ w. let u = w .0 in absurd (omega arith))
+              (search-is x t n (reaches (pointAt r i) m))

@@ -1,2 +1,3 @@
 pub mod Paper
 pub mod Steps
+pub mod Calls

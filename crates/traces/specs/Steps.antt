@@ -1,31 +1,33 @@
 -- The steps of a question on a set.
---   Asked t n            = a tape and a record that can be asked for
---   Accepted r s x       = the set is accepted
---   here x t n p k       = line k of X is a relation line of that tape and record, and passes the test p
---   tracedOn r q c       = what channel c leads to by a relation line that carries it
-use Prim.Native.Nat.{ℕ, _+_}
+--   passes x w p k    = line k of X is a relation line of that tape and record, and passes the test p
+--   tracedOn r q c    = what channel c leads to by a relation line that carries it
+--   holdsKey r y j    = line j of R is a receiver, and has the key y
+--   ReceiverLine r i  = R is well formed, and its line i is a receiver
+use Prim.Native.Nat.{ℕ, _+_, _<_}
 use mathlib.Core.Path.{_≡_}
 use mathlib.Core.Bool.{Bool, true, _&&_}
-use mathlib.Core.List.{List}
-use Rattle.rules.specs.Plan.{fine}
-use Rattle.rules.specs.Layout.{sps93}
-use Rattle.rules.specs.Disc.{file}
-use Rattle.rules.specs.Lines.{isData}
+use Rattle.rules.specs.Sheet.{Sheet}
+use Rattle.rules.specs.Lines.{isPoint}
 use Rattle.rules.specs.Relations.{Reach, reachAt}
 use Rattle.rules.specs.Cover.{leads, component}
-use Rattle.rules.specs.Reaches.{ofRecord}
 use Rattle.rules.specs.Order.{receiverLine}
-use Rattle.rules.specs.Check.{Answer, trace, verdict}
-use Rattle.rules.specs.Questions.{recordAsked}
+use Rattle.rules.specs.Check.{Answer, trace}
+use Rattle.form.specs.Known.{Known}
+use Rattle.keys.specs.Compare.{sameKey}
+use Rattle.keys.specs.Keyed.{takesAt, keyAt}
+use Rattle.keys.specs.declared.By.the-variants.{Receivers}
+use Rattle.keys.specs.declared.Key.{Key}
+use Rattle.spread.specs.Asked.{isOf}
+use Rattle.spread.specs.declared.wanted.Wanted.{Wanted}
 
-abbrev pub Asked : List ℕ → ℕ → Type 0
-Asked t n = recordAsked sps93 t n ≡ true
+unfoldable pub passes : Sheet → Wanted → (Reach → Bool) → ℕ → Bool
+passes x w p k = isOf x w k && p (reachAt x k)
 
-abbrev pub Accepted : List ℕ → List ℕ → List ℕ → Type 0
-Accepted r s x = verdict (file r) (file s) (file x) ≡ fine
+unfoldable pub tracedOn : Sheet → Reach → ℕ → Answer
+tracedOn r q c = trace (receiverLine r q (leads q c) + 1) (component q c)
 
-unfoldable pub here : List ℕ → List ℕ → ℕ → (Reach → Bool) → ℕ → Bool
-here x t n p k = let q = reachAt (file x) k in isData (file x) k && (ofRecord t n q && p q)
+unfoldable pub holdsKey : Sheet → Key → ℕ → Bool
+holdsKey r y j = takesAt Receivers r j && sameKey (keyAt Receivers r j) y
 
-unfoldable pub tracedOn : List ℕ → Reach → ℕ → Answer
-tracedOn r q c = trace (receiverLine (file r) q (leads q c) + 1) (component q c)
+abbrev pub ReceiverLine : Sheet → ℕ → Type 0
+ReceiverLine r i = Known 1 r × ((i < r .count) × (isPoint r i ≡ true))

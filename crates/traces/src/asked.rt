@@ -7,20 +7,22 @@ ghost use Rattle.rules.specs.Places.{every};
 ghost use Rattle.rules.specs.Layout.{sps93};
 ghost use Rattle.rules.specs.Disc.{printable};
 ghost use Rattle.rules.specs.Questions.{recordAsked, channelAsked, lineAsked, componentAsked};
-ghost use Rattle.fields.specs.Packed.{packed};
-ghost use Rattle.traces.specs.Steps.{Asked};
-use fields::names;
+
+// The text of 1993 has records and channels up to these.
+const MOST_RECORD: u64 = 9999;
+
+const MOST_CHANNEL: u64 = 9999;
 
 // Bytes 32 to 126.
-fn all_printable(t: &[u8]) -> bool
-    ensures value { λ b. ⌜ b ≡ every (length (now (t .entry))) (λ i. printable (getD (now (t .entry)) i 0)) ⌝ }
+fn all_printable(tape: &[u8]) -> bool
+    ensures value { λ b. ⌜ b ≡ every (length (now (tape .entry))) (λ i. printable (getD (now (tape .entry)) i 0)) ⌝ }
 {
     let mut i = 0;
-    while i < t.len() {
-        if t[i] < 32 {
+    while i < tape.len() {
+        if tape[i] < 32 {
             return false;
         }
-        if 126 < t[i] {
+        if 126 < tape[i] {
             return false;
         }
         i += 1;
@@ -29,51 +31,37 @@ fn all_printable(t: &[u8]) -> bool
 }
 
 // A tape of six such bytes, the first no blank, and a record to 9,999.
-pub fn record(t: &[u8], n: u64) -> bool
-    ensures value { λ b. ⌜ b ≡ recordAsked sps93 (now (t .entry)) n ⌝ }
+pub fn record(tape: &[u8], number: u64) -> bool
+    ensures value { λ b. ⌜ b ≡ recordAsked sps93 (now (tape .entry)) number ⌝ }
 {
-    if t.len() != 6 {
+    if tape.len() != 6 {
         return false;
     }
-    if !all_printable(t) {
+    if !all_printable(tape) {
         return false;
     }
-    if t[0] == 32 {
+    if tape[0] == 32 {
         return false;
     }
-    n <= 9999
+    number <= MOST_RECORD
 }
 
 // A channel, 1 to 9,999.
-pub fn channel(c: u64) -> bool
-    ensures value { λ b. ⌜ b ≡ channelAsked sps93 c ⌝ }
+pub fn channel(number: u64) -> bool
+    ensures value { λ b. ⌜ b ≡ channelAsked sps93 number ⌝ }
 {
-    1 <= c && c <= 9999
+    1 <= number && number <= MOST_CHANNEL
 }
 
 // An R line, 1 to 9,999, and a component, 1 to 9.
-pub fn receiver(j: u64, m: u64) -> bool
-    ensures value { λ b. ⌜ b ≡ (lineAsked j && componentAsked m) ⌝ }
+pub fn receiver(r_line: u64, component: u64) -> bool
+    ensures value { λ b. ⌜ b ≡ (lineAsked «r_line» && componentAsked component) ⌝ }
 {
-    if j < 1 {
+    if r_line < 1 {
         return false;
     }
-    if 9999 < j {
+    if (lines::MOST_LINES as u64) < r_line {
         return false;
     }
-    1 <= m && m <= 9
-}
-
-// The tape as one number, as relation lines have it.
-pub fn tape(t: &[u8], n: u64) -> u64
-    requires { ⌜ Asked (now t) n ⌝ }
-    ensures value { λ v. ⌜ v ≡ packed (now (t .entry)) ⌝ }
-{
-    let mut l = [0; 80];
-    let mut i = 0;
-    while i < 6 {
-        l[i] = t[i];
-        i += 1;
-    }
-    names::pack(&l, 1, 6)
+    1 <= component && component <= 9
 }

@@ -2,18 +2,23 @@
 // after the question's own range.
 ghost use mathlib.Core.Path.{_≡_};
 ghost use mathlib.Core.Bool.{true};
-ghost use Prim.Native.Nat.{ℕ, _-_, _/_, _≤_, _<_};
-ghost use Rattle.rules.specs.Disc.{file};
-ghost use Rattle.rules.specs.Lines.{isData};
+ghost use Prim.Native.Nat.{ℕ, _≤_, _<_};
 ghost use Rattle.rules.specs.Relations.{reachAt};
 ghost use Rattle.rules.specs.Cover.{carries, channelOf};
 ghost use Rattle.rules.specs.Points.{pointAt};
 ghost use Rattle.rules.specs.Check.{channel as channelAnswer};
-ghost use Rattle.rules.specs.Lookup.{reaches, found as foundOf, foundBack, lookup, wayBack};
-ghost use lib.ListN.{length};
-ghost use Rattle.rules.specs.Spread.{spread as spreadOf, spreadLines, spreadComponents, spreadBytes};
+ghost use Rattle.rules.specs.Lookup.{reaches, found as foundOf, foundBack};
+ghost use Rattle.rules.specs.Spread.{spread as spreadOf};
+ghost use Rattle.lines.specs.Reading.{onDisc, sheetOf};
+ghost use Rattle.keys.specs.Held.{RelationLine};
+ghost use Rattle.spread.specs.Asked.{Asked, Accepted};
 ghost use Rattle.traces.specs.Paper.{paper, paperSpread};
-ghost use Rattle.traces.specs.Steps.{Asked, Accepted, tracedOn};
+ghost use Rattle.traces.specs.Steps.{tracedOn, ReceiverLine};
+ghost use Rattle.traces.specs.Calls.{lookupOn, wayBackOn, tableOn, SpreadTable, SpreadBytes};
+use keys::By;
+use keys::Keyed;
+use lines::Reading;
+use records::cover;
 use records::relation;
 use sets::Answer as SetAnswer;
 
@@ -36,113 +41,173 @@ pub enum Spread {
     Refused(u8, u8, u32, u8),
 }
 
-// What channel c leads to by relation line k, which carries it.
-fn traced(r: &[u8], s: &[u8], x: &[u8], k: usize, c: u64) -> Answer
-    requires { ⌜ Accepted (now r) (now s) (now x) × ((k < file (now x) .count) × ((isData (file (now x)) k ≡ true) × (carries (reachAt (file (now x)) k) c ≡ true))) ⌝ }
-    ensures answer { λ a. ⌜ paper a ≡ tracedOn (now (r .entry)) (reachAt (file (now (x .entry))) k) c ⌝ }
-{
-    let l = lines::line_of(x, k);
-    let q = relation::reach_of(&l);
-    let d = c - q.from as u64;
-    let step = q.step as u64;
-    let p = q.from_receiver as u64 + d / step;
-    let j = forth::receiver_line(r, x, k, p);
-    Answer::Trace(j as u32 + 1, (d % step) as u8 + 1)
+// How the files are read, and which record of the tape is asked for.
+pub struct Question {
+    pub how: Reading,
+    pub record: u64,
 }
 
-// What channel c of that tape and record leads to in an accepted set.
-fn found(r: &[u8], s: &[u8], x: &[u8], t: &[u8], n: u64, c: u64) -> Answer
-    requires { ⌜ Accepted (now r) (now s) (now x) × Asked (now t) n ⌝ }
-    ensures answer { λ a. ⌜ paper a ≡ foundOf (file (now (r .entry))) (file (now (x .entry))) (now (t .entry)) n c ⌝ }
+// What a channel leads to by relation line k, which carries it.
+fn traced(how: Reading, r: &[u8], x: &[u8], k: usize, channel: u64) -> Answer
+    requires { ⌜ Accepted (sheetOf how (now r)) (sheetOf how (now x))
+        × (RelationLine (sheetOf how (now x)) k × (carries (reachAt (sheetOf how (now x)) k) channel ≡ true)) ⌝ }
+    ensures answer { λ a. ⌜ paper a ≡ tracedOn (sheetOf how (now (r .entry))) (reachAt (sheetOf how (now (x .entry))) k) channel ⌝ }
 {
-    let tape = asked::tape(t, n);
-    let k = forth::carrier(x, t, tape, n, c);
-    if lines::line_count(x) <= k {
+    let q = relation::reach_of(&lines::line_of(how, x, k));
+    let j = forth::receiver_line(how, r, x, k, cover::leads(q, channel) as u32);
+    Answer::Trace(j as u32 + 1, cover::component(q, channel) as u8)
+}
+
+// What a channel of that tape and record leads to in an accepted set.
+fn found(how: Reading, r: &[u8], x: &[u8], tape: &[u8], record: u64, channel: u64) -> Answer
+    requires { ⌜ Accepted (sheetOf how (now r)) (sheetOf how (now x)) × Asked (now tape) «record» ⌝ }
+    ensures answer { λ a. ⌜ paper a ≡ foundOf (sheetOf how (now (r .entry))) (sheetOf how (now (x .entry))) (now (tape .entry)) «record» channel ⌝ }
+{
+    let k = forth::carrier(how, x, tape, record, channel);
+    if lines::line_count(how, x) <= k {
         return Answer::NoTrace;
     }
-    traced(r, s, x, k, c)
+    traced(how, r, x, k, channel)
 }
 
 // The lookup: from tape, record and channel to the receiver's line and component.
-pub fn trace(r: &[u8], s: &[u8], x: &[u8], t: &[u8], n: u64, c: u64) -> Answer
-    ensures answer { λ a. ⌜ paper a ≡ lookup (file (now (r .entry))) (file (now (s .entry))) (file (now (x .entry))) (now (t .entry)) n c ⌝ }
+pub fn trace_on(q: Question, r: &[u8], s: &[u8], x: &[u8], tape: &[u8], channel: u64) -> Answer
+    ensures answer { λ a. ⌜ paper a
+        ≡ lookupOn (q .how) (now (r .entry)) (now (s .entry)) (now (x .entry)) (now (tape .entry)) (q .«record») channel ⌝ }
 {
-    if !asked::record(t, n) {
+    let how = q.how;
+    let record = q.record;
+    if !asked::record(tape, record) {
         return Answer::Refused(20, 0, 0, 0);
     }
-    if !asked::channel(c) {
+    if !asked::channel(channel) {
         return Answer::Refused(20, 0, 0, 0);
     }
-    match sets::check(r, s, x) {
-        SetAnswer::Accepted(_, _, _, _) => found(r, s, x, t, n, c),
+    match sets::check_on(how, r, s, x) {
+        SetAnswer::Accepted(_, _, _, _) => found(how, r, x, tape, record, channel),
         SetAnswer::Refused(i, f, l, e) => Answer::Refused(i, f, l, e),
     }
 }
 
-// The channel of relation line k for component m of the receiver in line j of R, from 0, which it reaches.
-fn returned(r: &[u8], s: &[u8], x: &[u8], j: usize, m: u64, k: usize) -> Answer
-    requires { ⌜ Accepted (now r) (now s) (now x) × (((j < file (now r) .count) × (k < file (now x) .count)) × ((isData (file (now x)) k ≡ true) × (reaches (pointAt (file (now r)) j) m (reachAt (file (now x)) k) ≡ true))) ⌝ }
-    ensures answer { λ a. ⌜ paper a ≡ channelAnswer (channelOf (reachAt (file (now (x .entry))) k) (pointAt (file (now (r .entry))) j .number) m) ⌝ }
+// The lookup of files on disc.
+pub fn trace(r: &[u8], s: &[u8], x: &[u8], tape: &[u8], record: u64, channel: u64) -> Answer
+    ensures answer { λ a. ⌜ paper a ≡ lookupOn onDisc (now (r .entry)) (now (s .entry)) (now (x .entry)) (now (tape .entry)) «record» channel ⌝ }
 {
-    let y = lines::line_of(x, k);
-    let q = relation::reach_of(&y);
-    let l = lines::line_of(r, j);
-    let d = relation::number_at(&l, 18, 25) as u64 - q.from_receiver as u64;
-    Answer::Channel((q.from as u64 + d * (q.step as u64) + (m - 1)) as u32)
+    let how = lines::disc();
+    trace_on(Question { how, record }, r, s, x, tape, channel)
 }
 
-// The channel of that tape and record for component m of R line j, counted from 1, in an accepted set.
-fn found_back(r: &[u8], s: &[u8], x: &[u8], t: &[u8], n: u64, j: u64, m: u64) -> Answer
-    requires { ⌜ Accepted (now r) (now s) (now x) × (Asked (now t) n × (1 ≤ j)) ⌝ }
-    ensures answer { λ a. ⌜ paper a ≡ foundBack (file (now (r .entry))) (file (now (x .entry))) (now (t .entry)) n j m ⌝ }
+// The channel of relation line k for a component of the receiver in line i of R, from 0, which it reaches.
+fn returned(how: Reading, r: &[u8], i: usize, x: &[u8], k: usize, component: u64) -> Answer
+    requires { ⌜ (Accepted (sheetOf how (now r)) (sheetOf how (now x)) × ReceiverLine (sheetOf how (now r)) i)
+        × (RelationLine (sheetOf how (now x)) k
+        × (reaches (pointAt (sheetOf how (now r)) i) component (reachAt (sheetOf how (now x)) k) ≡ true)) ⌝ }
+    ensures answer { λ a. ⌜ paper a
+        ≡ channelAnswer (channelOf (reachAt (sheetOf how (now (x .entry))) k) (pointAt (sheetOf how (now (r .entry))) i .number) component) ⌝ }
 {
-    if (lines::line_count(r) as u64) < j {
+    let number = relation::number_at(&lines::line_of(how, r, i), 18, 25);
+    let q = relation::reach_of(&lines::line_of(how, x, k));
+    Answer::Channel(cover::channel_of(q, number as u64, component) as u32)
+}
+
+// The channel of that tape and record for a component of an R line, counted from 1, in an accepted set.
+fn found_back(
+    how: Reading,
+    r: &[u8],
+    x: &[u8],
+    tape: &[u8],
+    record: u64,
+    r_line: u64,
+    component: u64,
+) -> Answer
+    requires { ⌜ Accepted (sheetOf how (now r)) (sheetOf how (now x)) × (Asked (now tape) «record» × (1 ≤ «r_line»)) ⌝ }
+    ensures answer { λ a. ⌜ paper a
+        ≡ foundBack (sheetOf how (now (r .entry))) (sheetOf how (now (x .entry))) (now (tape .entry)) «record» «r_line» component ⌝ }
+{
+    if (lines::line_count(how, r) as u64) < r_line {
         return Answer::NoTrace;
     }
-    let i = (j - 1) as usize;
-    if !back::is_receiver(r, i) {
+    let i = (r_line - 1) as usize;
+    if !keys::takes(
+        Keyed {
+            how,
+            by: By::Receivers,
+        },
+        r,
+        i,
+    ) {
         return Answer::NoTrace;
     }
-    let tape = asked::tape(t, n);
-    let k = back::reacher(r, x, t, tape, n, i, m);
-    if lines::line_count(x) <= k {
+    let k = back::reacher(how, r, i, x, tape, record, component);
+    if lines::line_count(how, x) <= k {
         return Answer::NoTrace;
     }
-    returned(r, s, x, i, m, k)
+    returned(how, r, i, x, k, component)
 }
 
 // The way back: from tape, record, R line and component to the channel.
-pub fn channel(r: &[u8], s: &[u8], x: &[u8], t: &[u8], n: u64, j: u64, m: u64) -> Answer
-    ensures answer { λ a. ⌜ paper a ≡ wayBack (file (now (r .entry))) (file (now (s .entry))) (file (now (x .entry))) (now (t .entry)) n j m ⌝ }
+pub fn channel_on(
+    q: Question,
+    r: &[u8],
+    s: &[u8],
+    x: &[u8],
+    tape: &[u8],
+    r_line: u64,
+    component: u64,
+) -> Answer
+    ensures answer { λ a. ⌜ paper a
+        ≡ wayBackOn (q .how) (now (r .entry)) (now (s .entry)) (now (x .entry)) (now (tape .entry)) (q .«record») «r_line» component ⌝ }
 {
-    if !asked::record(t, n) {
+    let how = q.how;
+    let record = q.record;
+    if !asked::record(tape, record) {
         return Answer::Refused(20, 0, 0, 0);
     }
-    if !asked::receiver(j, m) {
+    if !asked::receiver(r_line, component) {
         return Answer::Refused(20, 0, 0, 0);
     }
-    match sets::check(r, s, x) {
-        SetAnswer::Accepted(_, _, _, _) => found_back(r, s, x, t, n, j, m),
+    match sets::check_on(how, r, s, x) {
+        SetAnswer::Accepted(_, _, _, _) => found_back(how, r, x, tape, record, r_line, component),
         SetAnswer::Refused(i, f, l, e) => Answer::Refused(i, f, l, e),
     }
 }
 
-// What the spread table is answered for slices of p and q places.
-fn judged(r: &[u8], s: &[u8], x: &[u8], t: &[u8], n: u64, p: usize, q: usize) -> Spread
-    ensures answer { λ a. ⌜ paperSpread a ≡ spreadOf (file (now (r .entry))) (file (now (s .entry))) (file (now (x .entry))) (now (t .entry)) n p q ⌝ }
+// The way back of files on disc.
+pub fn channel(
+    r: &[u8],
+    s: &[u8],
+    x: &[u8],
+    tape: &[u8],
+    record: u64,
+    r_line: u64,
+    component: u64,
+) -> Answer
+    ensures answer { λ a. ⌜ paper a
+        ≡ wayBackOn onDisc (now (r .entry)) (now (s .entry)) (now (x .entry)) (now (tape .entry)) «record» «r_line» component ⌝ }
 {
-    if !asked::record(t, n) {
+    let how = lines::disc();
+    channel_on(Question { how, record }, r, s, x, tape, r_line, component)
+}
+
+// What the spread table is answered for slices of m and n places.
+fn judged(q: Question, r: &[u8], s: &[u8], x: &[u8], tape: &[u8], m: usize, n: usize) -> Spread
+    ensures answer { λ a. ⌜ paperSpread a ≡ spreadOf (sheetOf (q .how) (now (r .entry))) (sheetOf (q .how) (now (s .entry)))
+        (sheetOf (q .how) (now (x .entry))) (now (tape .entry)) (q .«record») m n ⌝ }
+{
+    let how = q.how;
+    let record = q.record;
+    if !asked::record(tape, record) {
         return Spread::Refused(20, 0, 0, 0);
     }
-    let v = sets::check(r, s, x);
+    let v = sets::check_on(how, r, s, x);
     if let SetAnswer::Refused(i, f, l, e) = v {
         return Spread::Refused(i, f, l, e);
     }
-    let h = spread::highest(x, t, n);
-    if (p as u64) < h {
+    let h = spread::highest(how, x, tape, record);
+    if (m as u64) < h {
         return Spread::Refused(21, 0, 0, 0);
     }
-    if (q as u64) < h {
+    if (n as u64) < h {
         return Spread::Refused(21, 0, 0, 0);
     }
     Spread::Highest(h)
@@ -150,43 +215,81 @@ fn judged(r: &[u8], s: &[u8], x: &[u8], t: &[u8], n: u64, p: usize, q: usize) ->
 
 // The spread table: place c - 1 of the slices takes the R line and the component of channel c, or 0 and 0, up to the record's highest
 // covered channel; later places stay, and a refusal writes nothing.
+pub fn spread_on(
+    q: Question,
+    r: &[u8],
+    s: &[u8],
+    x: &[u8],
+    tape: &[u8],
+    lines: &mut [u16],
+    components: &mut [u8],
+) -> Spread
+    ensures table { λ a. ⌜ SpreadTable (tableOn (q .how) (now (r .entry)) (now (s .entry)) (now (x .entry)) (now (tape .entry)) (q .«record»)
+        (now (lines .entry)) (now (components .entry))) (paperSpread a) (now (lines .exit)) (now (components .exit)) ⌝ }
+{
+    let how = q.how;
+    let record = q.record;
+    let a = judged(q, r, s, x, tape, lines.len(), components.len());
+    if let Spread::Refused(_, _, _, _) = a {
+        return a;
+    }
+    spread::fill(how, r, x, tape, record, lines, components);
+    a
+}
+
+// The spread table of files on disc.
 pub fn spread_table(
     r: &[u8],
     s: &[u8],
     x: &[u8],
-    t: &[u8],
-    n: u64,
+    tape: &[u8],
+    record: u64,
     lines: &mut [u16],
     components: &mut [u8],
 ) -> Spread
-    ensures answer { λ a. ⌜ paperSpread a ≡ spreadOf (file (now (r .entry))) (file (now (s .entry))) (file (now (x .entry))) (now (t .entry)) n (length (now (lines .entry))) (length (now (components .entry))) ⌝ }
-    ensures written { λ _. ⌜ (now (lines .exit) ≡ spreadLines (file (now (r .entry))) (file (now (s .entry))) (file (now (x .entry))) (now (t .entry)) n (length (now (lines .entry))) (length (now (components .entry))) (now (lines .entry))) × (now (components .exit) ≡ spreadComponents (file (now (r .entry))) (file (now (s .entry))) (file (now (x .entry))) (now (t .entry)) n (length (now (lines .entry))) (length (now (components .entry))) (now (components .entry))) ⌝ }
+    ensures table { λ a. ⌜ SpreadTable (tableOn onDisc (now (r .entry)) (now (s .entry)) (now (x .entry)) (now (tape .entry)) «record»
+        (now (lines .entry)) (now (components .entry))) (paperSpread a) (now (lines .exit)) (now (components .exit)) ⌝ }
 {
-    let a = judged(r, s, x, t, n, lines.len(), components.len());
-    if let Spread::Refused(_, _, _, _) = a {
-        return a;
-    }
-    spread::fill(r, s, x, t, n, lines, components);
-    a
+    let how = lines::disc();
+    spread_on(Question { how, record }, r, s, x, tape, lines, components)
 }
 
 // The same for hosts whose slices are bytes: two bytes a number, low byte first; an odd last byte is no place and stays.
+pub fn bytes_on(
+    q: Question,
+    r: &[u8],
+    s: &[u8],
+    x: &[u8],
+    tape: &[u8],
+    lines: &mut [u8],
+    components: &mut [u8],
+) -> Spread
+    ensures table { λ a. ⌜ SpreadBytes (tableOn (q .how) (now (r .entry)) (now (s .entry)) (now (x .entry)) (now (tape .entry)) (q .«record»)
+        (now (lines .entry)) (now (components .entry))) (paperSpread a) (now (lines .exit)) (now (components .exit)) ⌝ }
+{
+    let how = q.how;
+    let record = q.record;
+    let v = judged(q, r, s, x, tape, lines.len() / 2, components.len());
+    if let Spread::Refused(_, _, _, _) = v {
+        return v;
+    }
+    spread::fill_bytes(how, r, x, tape, record, lines, components);
+    v
+}
+
+// The same of files on disc.
 pub fn spread_bytes(
     r: &[u8],
     s: &[u8],
     x: &[u8],
-    t: &[u8],
-    n: u64,
+    tape: &[u8],
+    record: u64,
     lines: &mut [u8],
     components: &mut [u8],
 ) -> Spread
-    ensures answer { λ a. ⌜ paperSpread a ≡ spreadOf (file (now (r .entry))) (file (now (s .entry))) (file (now (x .entry))) (now (t .entry)) n (length (now (lines .entry)) / 2) (length (now (components .entry))) ⌝ }
-    ensures written { λ _. ⌜ (now (lines .exit) ≡ spreadBytes (file (now (r .entry))) (file (now (s .entry))) (file (now (x .entry))) (now (t .entry)) n (length (now (lines .entry)) / 2) (length (now (components .entry))) (now (lines .entry))) × (now (components .exit) ≡ spreadComponents (file (now (r .entry))) (file (now (s .entry))) (file (now (x .entry))) (now (t .entry)) n (length (now (lines .entry)) / 2) (length (now (components .entry))) (now (components .entry))) ⌝ }
+    ensures table { λ a. ⌜ SpreadBytes (tableOn onDisc (now (r .entry)) (now (s .entry)) (now (x .entry)) (now (tape .entry)) «record»
+        (now (lines .entry)) (now (components .entry))) (paperSpread a) (now (lines .exit)) (now (components .exit)) ⌝ }
 {
-    let v = judged(r, s, x, t, n, lines.len() / 2, components.len());
-    if let Spread::Refused(_, _, _, _) = v {
-        return v;
-    }
-    spread::fill_bytes(r, s, x, t, n, lines, components);
-    v
+    let how = lines::disc();
+    bytes_on(Question { how, record }, r, s, x, tape, lines, components)
 }

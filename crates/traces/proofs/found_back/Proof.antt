@@ -1,8 +1,6 @@
 -- `traces::found_back` meets its contract. Assumes nothing.
-use Prim.Native.Nat.{_<_, _≤_}
-use Rattle.rules.specs.Disc.{file}
-use Rattle.traces.proofs.Sets.{known-r, known-x}
-use Rattle.traces.proofs.Ways.{beyond-file, no-point, none-reaches, one-reaches, reacher-is}
+use Rattle.lines.specs.Reading.{sheetOf}
+use Rattle.traces.proofs.Ways.{beyond-file, no-point, none-reaches, one-reaches, reacher-is, receiver-line}
 use borrow.Author.Needs.{needs}
 use borrow.Author.Tests.{not-false, not-true}
 use mathlib.Core.Path.{_∙_, refl}
@@ -15,64 +13,60 @@ line-count-requires c κs = search needs
 
 returns : tie.Need-returns
 returns c =
-    let x = c .before .before .before .before .before .before .args in
-    let p = c .before .before .before .before .before .before .pre in
+    let a = c .before .before .before .before .before .args in
     let n = c .before .line-count .ensures in
-    beyond-file _ _ _ _ _ _ (omega arith)
+    beyond-file (sheetOf (a .how) (a .r .now)) (sheetOf (a .how) (a .x .now)) (a .tape .now) (a .«record») (a .r-line) (a .component) (omega arith)
 
 sub-i : tie.Need-sub-i
 sub-i c = search needs
 
-is-receiver-requires : tie.Need-is-receiver-requires
-is-receiver-requires c κs = search needs
+takes-requires : tie.Need-takes-requires
+takes-requires c κs = search needs
 
 returns-2 : tie.Need-returns-2
 returns-2 c =
-    let x = c .before .before .before .before .before .before .before .before .args in
-    let p = c .before .before .before .before .before .before .before .before .pre in
+    let a = c .before .before .before .before .before .before .before .args in
+    let p = c .before .before .before .before .before .before .before .pre in
     let n = c .before .before .before .line-count .ensures in
-    let l : x .j ≤ file (x .r .now) .count = omega arith in
-    no-point (x .r .now) (x .x .now) _ _ (x .j) _ (p .1 .1) l _ refl _ (c .before .is-receiver .ensures) (not-true _ (c .if2 .taken))
-
-tape-requires : tie.Need-tape-requires
-tape-requires c κs = search needs
+    let l = c .before .before .if1 .left in
+    no-point (sheetOf (a .how) (a .r .now)) (sheetOf (a .how) (a .x .now)) (a .tape .now) (a .«record») (a .r-line) (a .component) (p .1 .1) (omega arith) _ refl _ (c .before .takes .ensures) (not-true _ (c .if2 .taken))
 
 reacher-requires : tie.Need-reacher-requires
 reacher-requires c κs =
-    let x = c .before .before .before .before .before .before .before .before .before .args in
-    let p = c .before .before .before .before .before .before .before .before .before .pre in
-    let n = c .before .before .before .before .line-count .ensures in
-    let l : x .j ≤ file (x .r .now) .count = omega arith in
-    ((known-r (x .r .now) (x .s .now) (x .x .now) (p .0), (known-x (x .r .now) (x .s .now) (x .x .now) (p .0), (p .1 .0, c .tape .ensures))), omega arith)
+    let a = c .before .before .before .before .before .before .before .args in
+    let p = c .before .before .before .before .before .before .before .pre in
+    let n = c .before .before .before .line-count .ensures in
+    let l = c .before .before .if1 .left in
+    (receiver-line (sheetOf (a .how) (a .r .now)) (sheetOf (a .how) (a .x .now)) (a .tape .now) (a .«record») (a .r-line) (a .component) (p .1 .1) (omega arith) _ refl _ (c .before .takes .ensures) (not-false _ (c .if2 .left)) (p .0 .receivers), (p .0 .relations, p .1 .0))
 
 line-count-requires-2 : tie.Need-line-count-requires-2
 line-count-requires-2 c κs = search needs
 
 returns-3 : tie.Need-returns-3
 returns-3 c =
-    let x = c .before .before .before .before .before .before .before .before .before .before .before .before .args in
-    let p = c .before .before .before .before .before .before .before .before .before .before .before .before .pre in
-    let n = c .before .before .before .before .before .before .before .line-count .ensures in
-    let l : x .j ≤ file (x .r .now) .count = omega arith in
-    none-reaches (x .r .now) (x .x .now) _ _ (x .j) _ (p .1 .1) l _ refl _ (c .before .before .before .before .before .is-receiver .ensures) (not-false _ (c .before .before .before .before .if2 .left)) _ (c .before .before .reacher .ensures) _ (c .before .line-count2 .ensures) (c .if3 .taken)
+    let a = c .before .before .before .before .before .before .before .before .before .before .args in
+    let p = c .before .before .before .before .before .before .before .before .before .before .pre in
+    let n = c .before .before .before .before .before .before .line-count .ensures in
+    let l = c .before .before .before .before .before .if1 .left in
+    none-reaches (sheetOf (a .how) (a .r .now)) (sheetOf (a .how) (a .x .now)) (a .tape .now) (a .«record») (a .r-line) (a .component) (p .1 .1) (omega arith) _ refl _ (c .before .before .before .before .takes .ensures) (not-false _ (c .before .before .before .if2 .left)) _ (c .before .before .reacher .ensures) _ (c .before .line-count2 .ensures) (c .if3 .taken)
 
 returned-requires : tie.Need-returned-requires
 returned-requires c κs =
-    let x = c .before .before .before .before .before .before .before .before .before .before .before .before .args in
-    let p = c .before .before .before .before .before .before .before .before .before .before .before .before .pre in
-    let n = c .before .before .before .before .before .before .before .line-count .ensures in
-    let l : x .j ≤ file (x .r .now) .count = omega arith in
-    let d = c .before .line-count2 .ensures in
-    let h : c .before .before .reacher .result < file (x .x .now) .count = omega arith in
-    (p .0, ((omega arith, h), reacher-is _ _ _ _ _ _ _ (c .before .before .reacher .ensures) h))
+    let a = c .before .before .before .before .before .before .before .before .before .before .args in
+    let p = c .before .before .before .before .before .before .before .before .before .before .pre in
+    let n = c .before .before .before .before .before .before .line-count .ensures in
+    let l = c .before .before .before .before .before .if1 .left in
+    let w = reacher-is (sheetOf (a .how) (a .r .now)) (sheetOf (a .how) (a .x .now)) (a .tape .now) (a .«record») (a .r-line) (a .component) (p .1 .1) (omega arith) _ refl _ (c .before .before .before .before .takes .ensures) (not-false _ (c .before .before .before .if2 .left)) _ (c .before .before .reacher .ensures) _ (c .before .line-count2 .ensures) (c .if3 .left) in
+    ((p .0, receiver-line (sheetOf (a .how) (a .r .now)) (sheetOf (a .how) (a .x .now)) (a .tape .now) (a .«record») (a .r-line) (a .component) (p .1 .1) (omega arith) _ refl _ (c .before .before .before .before .takes .ensures) (not-false _ (c .before .before .before .if2 .left)) (p .0 .receivers)), (w .0, w .1))
 
 returns-4 : tie.Need-returns-4
 returns-4 c =
-    let x = c .before .before .before .before .before .before .before .before .before .before .before .before .before .args in
-    let p = c .before .before .before .before .before .before .before .before .before .before .before .before .before .pre in
-    let n = c .before .before .before .before .before .before .before .before .line-count .ensures in
-    let l : x .j ≤ file (x .r .now) .count = omega arith in
-    c .returned .ensures ∙ one-reaches (x .r .now) (x .x .now) _ _ (x .j) _ (p .1 .1) l _ refl _ (c .before .before .before .before .before .before .is-receiver .ensures) (not-false _ (c .before .before .before .before .before .if2 .left)) _ (c .before .before .before .reacher .ensures) _ (c .before .before .line-count2 .ensures) (c .before .if3 .left)
+    let a = c .before .before .before .before .before .before .before .before .before .before .before .args in
+    let p = c .before .before .before .before .before .before .before .before .before .before .before .pre in
+    let n = c .before .before .before .before .before .before .before .line-count .ensures in
+    let l = c .before .before .before .before .before .before .if1 .left in
+    c .returned .ensures
+    ∙ one-reaches (sheetOf (a .how) (a .r .now)) (sheetOf (a .how) (a .x .now)) (a .tape .now) (a .«record») (a .r-line) (a .component) (p .1 .1) (omega arith) _ refl _ (c .before .before .before .before .before .takes .ensures) (not-false _ (c .before .before .before .before .if2 .left)) _ (c .before .before .before .reacher .ensures) _ (c .before .before .line-count2 .ensures) (c .before .if3 .left)
 
 pub found-back-spec : {M : Type 1} → statement M
 found-back-spec =
@@ -81,9 +75,8 @@ found-back-spec =
     line-count-requires
     returns
     sub-i
-    is-receiver-requires
+    takes-requires
     returns-2
-    tape-requires
     reacher-requires
     line-count-requires-2
     returns-3

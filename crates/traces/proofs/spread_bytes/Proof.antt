@@ -1,33 +1,13 @@
 -- `traces::spread_bytes` meets its contract. Assumes nothing.
-use Rattle.rules.specs.Spread.{place, bytePlace, lineOf, componentOf}
-use Rattle.traces.proofs.Tables.{leaves, may-fill, fills}
 use borrow.Author.Needs.{needs}
-use native.Mathlib.Omega.{arith}
 use Rattle.traces.proofs.spread_bytes.Statement.{statement}
 use Rattle.traces.proofs.spread_bytes.Tie as tie
 
-judged-requires : tie.Need-judged-requires
-judged-requires c κs = search needs
+disc-requires : tie.Need-disc-requires
+disc-requires c κs = search needs
 
-enum-told : tie.Need-enum-told
-enum-told c = search needs
-
-returns : tie.Need-returns
-returns c =
-    let x = c .before .before .before .before .before .before .before .before .before .args in
-    let e = c .before .before .judged .ensures in
-    let z = c .enum-told .given .1 in
-    (e, (leaves (x .r .now) (x .s .now) (x .x .now) (x .t .now) (x .n) _ _ _ e bytePlace lineOf (x .lines .now) _ _ _ _ z, leaves (x .r .now) (x .s .now) (x .x .now) (x .t .now) (x .n) _ _ _ e place componentOf (x .components .now) _ _ _ _ z))
-
-enum-told-2 : tie.Need-enum-told-2
-enum-told-2 c = search needs
-
-fill-bytes-requires : tie.Need-fill-bytes-requires
-fill-bytes-requires c κs =
-    let x = c .before .before .before .before .before .before .before .before .before .before .before .args in
-    let w = may-fill (x .r .now) (x .s .now) (x .x .now) (x .t .now) (x .n) _ _ _ (c .before .before .before .before .judged .ensures) _ (c .before .before .enum-told2 .given .1) in
-    let h = w .1 .0 in
-    (w .0, (omega arith, w .1 .1))
+bytes-on-requires : tie.Need-bytes-on-requires
+bytes-on-requires c κs = search needs
 
 same-length : tie.Need-same-length
 same-length c = search needs
@@ -35,23 +15,15 @@ same-length c = search needs
 same-length-2 : tie.Need-same-length-2
 same-length-2 c = search needs
 
-returns-2 : tie.Need-returns-2
-returns-2 c =
-    let x = c .before .before .before .before .before .before .before .before .before .before .before .before .before .before .before .before .args in
-    let e = c .before .before .before .before .before .before .before .before .before .judged .ensures in
-    let z = c .before .before .before .before .before .before .before .enum-told2 .given .1 in
-    let w = c .before .before .before .before .fill-bytes .ensures in
-    (e, (fills (x .r .now) (x .s .now) (x .x .now) (x .t .now) (x .n) _ _ _ e _ z bytePlace lineOf (x .lines .now) _ (w .0), fills (x .r .now) (x .s .now) (x .x .now) (x .t .now) (x .n) _ _ _ e _ z place componentOf (x .components .now) _ (w .1)))
+returns : tie.Need-returns
+returns c = rw (c .before .before .before .before .before .before .before .disc .ensures) at (c .before .before .before .before .bytes-on .ensures)
 
 pub spread-bytes-spec : {M : Type 1} → statement M
 spread-bytes-spec =
     tie.close
     (tie.spec
-    judged-requires
-    enum-told
-    returns
-    enum-told-2
-    fill-bytes-requires
+    disc-requires
+    bytes-on-requires
     same-length
     same-length-2
-    returns-2)
+    returns)

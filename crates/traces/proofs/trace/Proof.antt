@@ -1,68 +1,21 @@
 -- `traces::trace` meets its contract. Assumes nothing.
-use Rattle.rules.specs.Disc.{disc}
-use Rattle.rules.specs.Lookup.{lookup}
-use Rattle.traces.proofs.Sets.{both-in, first-out, in-range, out-of-range, own-refusal, second-out, set-accepted, set-refused}
 use borrow.Author.Needs.{needs}
-use borrow.Author.Tests.{not-false, not-true}
-use mathlib.Core.Path.{_∙_, sym}
 use Rattle.traces.proofs.trace.Statement.{statement}
 use Rattle.traces.proofs.trace.Tie as tie
 
-record-requires : tie.Need-record-requires
-record-requires c κs = search needs
+disc-requires : tie.Need-disc-requires
+disc-requires c κs = search needs
+
+trace-on-requires : tie.Need-trace-on-requires
+trace-on-requires c κs = search needs
 
 returns : tie.Need-returns
-unfolding lookup disc
-returns c =
-    let x = c .before .before .before .before .before .before .args in
-    out-of-range (x .r .now) (x .s .now) (x .x .now) _ _ (first-out _ _ (sym (c .before .«record» .ensures) ∙ not-true _ (c .if1 .taken)))
-
-channel-requires : tie.Need-channel-requires
-channel-requires c κs = search needs
-
-returns-2 : tie.Need-returns-2
-unfolding lookup disc
-returns-2 c =
-    let x = c .before .before .before .before .before .before .before .before .args in
-    out-of-range (x .r .now) (x .s .now) (x .x .now) _ _ (second-out _ _ (sym (c .before .before .before .«record» .ensures) ∙ not-false _ (c .before .before .if1 .left)) (sym (c .before .channel .ensures) ∙ not-true _ (c .if2 .taken)))
-
-check-requires : tie.Need-check-requires
-check-requires c κs = search needs
-
-enum-told : tie.Need-enum-told
-enum-told c = search needs
-
-found-requires : tie.Need-found-requires
-found-requires c κs =
-    let x = c .before .before .before .before .before .before .before .before .before .before .before .args in
-    ((set-accepted (x .r .now) (x .s .now) (x .x .now) _ (c .before .before .check .ensures) _ _ _ _ (c .enum-told .given .1)), sym (c .before .before .before .before .before .before .«record» .ensures) ∙ not-false _ (c .before .before .before .before .before .if1 .left))
-
-enum-known-i : tie.Need-enum-known-i
-enum-known-i c = search needs
-
-returns-3 : tie.Need-returns-3
-unfolding lookup disc
-returns-3 c =
-    let x = c .before .before .before .before .before .before .before .before .before .before .before .before .args in
-    c .found .ensures ∙ in-range (x .r .now) (x .s .now) (x .x .now) _ _ (both-in _ _ (sym (c .before .before .before .before .before .before .before .«record» .ensures) ∙ not-false _ (c .before .before .before .before .before .before .if1 .left)) (sym (c .before .before .before .before .before .channel .ensures) ∙ not-false _ (c .before .before .before .before .if2 .left))) (set-accepted (x .r .now) (x .s .now) (x .x .now) _ (c .before .before .before .check .ensures) _ _ _ _ (c .before .enum-told .given .1))
-
-returns-4 : tie.Need-returns-4
-unfolding lookup disc
-returns-4 c =
-    let x = c .before .before .before .before .before .before .before .before .before .before .before .before .args in
-    own-refusal (x .r .now) (x .s .now) (x .x .now) _ _ (both-in _ _ (sym (c .before .before .before .before .before .before .before .«record» .ensures) ∙ not-false _ (c .before .before .before .before .before .before .if1 .left)) (sym (c .before .before .before .before .before .channel .ensures) ∙ not-false _ (c .before .before .before .before .if2 .left))) _ _ _ _ (set-refused (x .r .now) (x .s .now) (x .x .now) _ (c .before .before .before .check .ensures) _ _ _ _ (c .before .i .given .1))
+returns c = rw (c .before .disc .ensures) at (c .trace-on .ensures)
 
 pub trace-spec : {M : Type 1} → statement M
 trace-spec =
     tie.close
     (tie.spec
-    record-requires
-    returns
-    channel-requires
-    returns-2
-    check-requires
-    enum-told
-    found-requires
-    enum-known-i
-    returns-3
-    returns-4)
+    disc-requires
+    trace-on-requires
+    returns)

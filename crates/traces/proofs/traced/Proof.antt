@@ -1,89 +1,80 @@
 -- `traces::traced` meets its contract. Assumes nothing.
-use Rattle.traces.proofs.Sets.{component-small, from-below, known-r, known-x, leads-there, line-small, number-small, step-there}
+use Rattle.lines.specs.Reading.{sheetOf}
+use Rattle.rules.specs.Relations.{reachAt}
+use Rattle.spread.proofs.Asked.{reads}
+use Rattle.traces.proofs.Sets.{component-small, leads-small, leads-there, line-small, may-lead}
 use borrow.Author.Needs.{needs}
 use native.Mathlib.Omega.{arith}
 use Rattle.traces.proofs.traced.Statement.{statement}
 use Rattle.traces.proofs.traced.Tie as tie
 
 line-of-requires : tie.Need-line-of-requires
-line-of-requires c κs = search needs
+line-of-requires c κs = c .before .before .pre .1 .0 .0
 
 reach-of-requires : tie.Need-reach-of-requires
 reach-of-requires c κs = search needs
 
-cast-d : tie.Need-cast-d
-cast-d c = search needs
+leads-requires : tie.Need-leads-requires
+leads-requires c κs =
+    let a = c .before .before .before .before .before .args in
+    let p = c .before .before .before .before .before .pre in
+    let e = reads (a .how) (a .x .now) (a .k) _ _ (c .before .before .line-of .ensures) (c .reach-of .ensures) in
+    may-lead (sheetOf (a .how) (a .r .now)) (sheetOf (a .how) (a .x .now)) (p .0) (a .k) (a .channel) (p .1 .0) (p .1 .1) _ e
 
-sub-d : tie.Need-sub-d
-sub-d c =
-    let x = c .before .before .before .before .before .before .before .args in
-    let p = c .before .before .before .before .before .before .before .pre in
-    from-below (x .r .now) (x .s .now) (x .x .now) _ (p .0) _ _ (p .1 .0) (p .1 .1 .0) (p .1 .1 .1) (c .before .before .before .line-of .ensures) _ (c .before .reach-of .ensures)
-
-cast-step : tie.Need-cast-step
-cast-step c = search needs
-
-cast-p : tie.Need-cast-p
-cast-p c = search needs
-
-div-p : tie.Need-div-p
-div-p c =
-    let x = c .before .before .before .before .before .before .before .before .before .args in
-    let p = c .before .before .before .before .before .before .before .before .before .pre in
-    step-there (x .r .now) (x .s .now) (x .x .now) _ (p .0) _ _ (p .1 .0) (p .1 .1 .0) (p .1 .1 .1) (c .before .before .before .before .before .line-of .ensures) _ (c .before .before .before .reach-of .ensures)
-
-add-p : tie.Need-add-p
-add-p c =
-    let x = c .before .before .before .before .before .before .before .before .before .args in
-    let p = c .before .before .before .before .before .before .before .before .before .pre in
-    let h = number-small (x .r .now) (x .s .now) (x .x .now) _ (p .0) _ _ (p .1 .0) (p .1 .1 .0) (p .1 .1 .1) (c .before .before .before .before .before .line-of .ensures) _ (c .before .before .before .reach-of .ensures) in
+cast-receiver-line : tie.Need-cast-receiver-line
+cast-receiver-line c =
+    let a = c .before .before .before .before .before .before .args in
+    let p = c .before .before .before .before .before .before .pre in
+    let e = reads (a .how) (a .x .now) (a .k) _ _ (c .before .before .before .line-of .ensures) (c .before .reach-of .ensures) in
+    let s = leads-small (sheetOf (a .how) (a .r .now)) (sheetOf (a .how) (a .x .now)) (p .0) (a .k) (a .channel) (p .1 .0) (p .1 .1) _ e in
+    let z = c .leads .ensures (reachAt (sheetOf (a .how) (a .x .now)) (a .k)) e in
     omega arith
 
 receiver-line-requires : tie.Need-receiver-line-requires
 receiver-line-requires c κs =
-    let x = c .before .before .before .before .before .before .before .before .before .args in
-    let p = c .before .before .before .before .before .before .before .before .before .pre in
-    ((known-r (x .r .now) (x .s .now) (x .x .now) (p .0), known-x (x .r .now) (x .s .now) (x .x .now) (p .0)), p .1 .0)
+    let p = c .before .before .before .before .before .before .pre in
+    (p .0 .receivers, (p .0 .relations, p .1 .0))
 
-cast-t16 : tie.Need-cast-t16
-cast-t16 c =
-    let x = c .before .before .before .before .before .before .before .before .before .before .args in
-    let p = c .before .before .before .before .before .before .before .before .before .before .pre in
-    let h = line-small (x .r .now) (x .s .now) (x .x .now) _ (p .0) _ _ (p .1 .0) (p .1 .1 .0) (p .1 .1 .1) (c .before .before .before .before .before .before .line-of .ensures) _ (c .before .before .before .before .reach-of .ensures) _ (c .receiver-line .ensures) in
+cast-t12 : tie.Need-cast-t12
+cast-t12 c =
+    let a = c .before .before .before .before .before .before .before .args in
+    let p = c .before .before .before .before .before .before .before .pre in
+    let e = reads (a .how) (a .x .now) (a .k) _ _ (c .before .before .before .before .line-of .ensures) (c .before .before .reach-of .ensures) in
+    let s = line-small (sheetOf (a .how) (a .r .now)) (sheetOf (a .how) (a .x .now)) (p .0) (a .k) (a .channel) (p .1 .0) (p .1 .1) _ e (c .before .leads .result) in
+    let z = c .receiver-line .ensures in
     omega arith
 
-add-t17 : tie.Need-add-t17
-add-t17 c =
-    let x = c .before .before .before .before .before .before .before .before .before .before .args in
-    let p = c .before .before .before .before .before .before .before .before .before .before .pre in
-    let h = line-small (x .r .now) (x .s .now) (x .x .now) _ (p .0) _ _ (p .1 .0) (p .1 .1 .0) (p .1 .1 .1) (c .before .before .before .before .before .before .line-of .ensures) _ (c .before .before .before .before .reach-of .ensures) _ (c .receiver-line .ensures) in
+add-t13 : tie.Need-add-t13
+add-t13 c =
+    let a = c .before .before .before .before .before .before .before .args in
+    let p = c .before .before .before .before .before .before .before .pre in
+    let e = reads (a .how) (a .x .now) (a .k) _ _ (c .before .before .before .before .line-of .ensures) (c .before .before .reach-of .ensures) in
+    let s = line-small (sheetOf (a .how) (a .r .now)) (sheetOf (a .how) (a .x .now)) (p .0) (a .k) (a .channel) (p .1 .0) (p .1 .1) _ e (c .before .leads .result) in
+    let z = c .receiver-line .ensures in
     omega arith
 
-rem-t14 : tie.Need-rem-t14
-rem-t14 c =
-    let x = c .before .before .before .before .before .before .before .before .before .before .args in
-    let p = c .before .before .before .before .before .before .before .before .before .before .pre in
-    step-there (x .r .now) (x .s .now) (x .x .now) _ (p .0) _ _ (p .1 .0) (p .1 .1 .0) (p .1 .1 .1) (c .before .before .before .before .before .before .line-of .ensures) _ (c .before .before .before .before .reach-of .ensures)
+component-requires : tie.Need-component-requires
+component-requires c κs =
+    let a = c .before .before .before .before .before .before .before .args in
+    let p = c .before .before .before .before .before .before .before .pre in
+    let e = reads (a .how) (a .x .now) (a .k) _ _ (c .before .before .before .before .line-of .ensures) (c .before .before .reach-of .ensures) in
+    may-lead (sheetOf (a .how) (a .r .now)) (sheetOf (a .how) (a .x .now)) (p .0) (a .k) (a .channel) (p .1 .0) (p .1 .1) _ e
 
-cast-t18 : tie.Need-cast-t18
-cast-t18 c =
-    let x = c .before .before .before .before .before .before .before .before .before .before .args in
-    let p = c .before .before .before .before .before .before .before .before .before .before .pre in
-    let h = component-small (x .r .now) (x .s .now) (x .x .now) _ (p .0) _ _ (p .1 .0) (p .1 .1 .0) (p .1 .1 .1) (c .before .before .before .before .before .before .line-of .ensures) _ (c .before .before .before .before .reach-of .ensures) in
-    omega arith
-
-add-t19 : tie.Need-add-t19
-add-t19 c =
-    let x = c .before .before .before .before .before .before .before .before .before .before .args in
-    let p = c .before .before .before .before .before .before .before .before .before .before .pre in
-    let h = component-small (x .r .now) (x .s .now) (x .x .now) _ (p .0) _ _ (p .1 .0) (p .1 .1 .0) (p .1 .1 .1) (c .before .before .before .before .before .before .line-of .ensures) _ (c .before .before .before .before .reach-of .ensures) in
+cast-t14 : tie.Need-cast-t14
+cast-t14 c =
+    let a = c .before .before .before .before .before .before .before .before .args in
+    let p = c .before .before .before .before .before .before .before .before .pre in
+    let e = reads (a .how) (a .x .now) (a .k) _ _ (c .before .before .before .before .before .line-of .ensures) (c .before .before .before .reach-of .ensures) in
+    let s = component-small (sheetOf (a .how) (a .r .now)) (sheetOf (a .how) (a .x .now)) (p .0) (a .k) (a .channel) (p .1 .0) (p .1 .1) _ e in
+    let z = c .component .ensures (reachAt (sheetOf (a .how) (a .x .now)) (a .k)) e in
     omega arith
 
 returns : tie.Need-returns
 returns c =
-    let x = c .before .before .before .before .before .before .before .before .before .before .args in
-    let p = c .before .before .before .before .before .before .before .before .before .before .pre in
-    leads-there (x .r .now) (x .s .now) (x .x .now) _ (p .0) _ _ (p .1 .0) (p .1 .1 .0) (p .1 .1 .1) (c .before .before .before .before .before .before .line-of .ensures) _ (c .before .before .before .before .reach-of .ensures) _ (c .receiver-line .ensures)
+    let a = c .before .before .before .before .before .before .before .before .args in
+    let p = c .before .before .before .before .before .before .before .before .pre in
+    let e = reads (a .how) (a .x .now) (a .k) _ _ (c .before .before .before .before .before .line-of .ensures) (c .before .before .before .reach-of .ensures) in
+    leads-there (sheetOf (a .how) (a .r .now)) (sheetOf (a .how) (a .x .now)) (p .0) (a .k) (a .channel) (p .1 .0) (p .1 .1) _ e _ _ _ (c .before .before .leads .ensures (reachAt (sheetOf (a .how) (a .x .now)) (a .k)) e) (c .component .ensures (reachAt (sheetOf (a .how) (a .x .now)) (a .k)) e) (c .before .receiver-line .ensures)
 
 pub traced-spec : {M : Type 1} → statement M
 traced-spec =
@@ -91,16 +82,11 @@ traced-spec =
     (tie.spec
     line-of-requires
     reach-of-requires
-    cast-d
-    sub-d
-    cast-step
-    cast-p
-    div-p
-    add-p
+    leads-requires
+    cast-receiver-line
     receiver-line-requires
-    cast-t16
-    add-t17
-    rem-t14
-    cast-t18
-    add-t19
+    cast-t12
+    add-t13
+    component-requires
+    cast-t14
     returns)

@@ -46,7 +46,7 @@ returns-3 : tie.Need-returns-3 Inv-loop μ-loop
 returns-3 c =
     let at = c .before .loop in
     let x = c .before .before .args in
-    sym (at .inv .1) ∙ ap (λ (i : ℕ). every i (λ j. printable (getD (x .t .now) j 0))) (omega arith)
+    sym (at .inv .1) ∙ ap (λ (i : ℕ). every i (λ j. printable (getD (x .tape .now) j 0))) (omega arith)
 
 pub all-printable-spec : {M : Type 1} → statement M
 all-printable-spec =

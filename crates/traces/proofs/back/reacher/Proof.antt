@@ -1,13 +1,13 @@
 -- `traces::back::reacher` meets its contract. Assumes nothing.
 use Prim.Native.Nat.{_-_, _≤_, ℕ}
+use Rattle.lines.specs.Reading.{sheetOf}
 use Rattle.rules.proofs.Steps.{least-more, least-none-yet, least-stop}
-use Rattle.rules.specs.Disc.{file}
+use Rattle.rules.specs.Cover.{component}
 use Rattle.rules.specs.Lookup.{reaches}
 use Rattle.rules.specs.Places.{least}
 use Rattle.rules.specs.Points.{pointAt}
-use Rattle.tables.proofs.Laws.{none-found}
 use Rattle.traces.proofs.Lines.{walk-of}
-use Rattle.traces.specs.Steps.{here}
+use Rattle.traces.specs.Steps.{passes}
 use borrow.Author.Needs.{needs}
 use mathlib.Core.Path.{_∙_, _≡_, ap, sym}
 use native.Mathlib.Omega.{arith}
@@ -15,10 +15,14 @@ use Rattle.traces.proofs.back.reacher.Statement.{statement}
 use Rattle.traces.proofs.back.reacher.Tie as tie
 
 abbrev Inv-loop : tie.InvT-loop
-Inv-loop r x t tape n i m count k₀ k = (k ≤ count) × (least k (here x t n (reaches (pointAt (file r) i) m)) ≡ k)
+Inv-loop how r i x tape «record» component w count k₀ k =
+    (k ≤ count) × (least k (passes (sheetOf how x) w (reaches (pointAt (sheetOf how r) i) component)) ≡ k)
 
 abbrev μ-loop : tie.MeasureT-loop
-μ-loop r x t tape n i m count k₀ k = count - k
+μ-loop how r i x tape «record» component w count k₀ k = count - k
+
+coded-requires : tie.Need-coded-requires Inv-loop μ-loop
+coded-requires c κs = c .before .before .before .pre .1 .1
 
 line-count-requires : tie.Need-line-count-requires Inv-loop μ-loop
 line-count-requires c κs = search needs
@@ -26,16 +30,20 @@ line-count-requires c κs = search needs
 loop-holds : tie.Need-loop-holds Inv-loop μ-loop
 loop-holds c = (omega arith, least-none-yet _)
 
-reaches-requires : tie.Need-reaches-requires Inv-loop μ-loop
-reaches-requires c κs =
+is-here-requires : tie.Need-is-here-requires Inv-loop μ-loop
+is-here-requires c κs =
+    let p = c .before .before .before .before .before .before .before .pre in
     let n = c .before .before .line-count .ensures in
-    (c .before .before .before .before .before .before .pre .0, (c .before .before .before .before .before .before .pre .1, omega arith))
+    (p .0, (p .1 .0, omega arith))
 
 returns : tie.Need-returns Inv-loop μ-loop
 returns c =
-    let at = c .before .before .before .loop in
+    let a = c .before .before .before .before .before .before .before .before .before .args in
+    let p = c .before .before .before .before .before .before .before .before .before .pre in
     let n = c .before .before .before .before .line-count .ensures in
-    sym (least-stop _ _ _ (omega arith) (at .inv .1) (sym (c .before .reaches .ensures) ∙ c .if1 .taken)) ∙ walk-of _ _ _ _
+    let y = c .before .before .loop-test .taken in
+    sym (least-stop _ _ ((sheetOf (a .how) (a .x .now)) .count) (omega arith) (c .before .before .before .loop .inv .1) (sym (c .before .is-here .ensures) ∙ c .if1 .taken))
+    ∙ walk-of (sheetOf (a .how) (a .x .now)) (p .1 .0) (a .tape .now) (a .«record») (p .1 .1) _ (c .before .before .before .before .before .coded .ensures) (reaches (pointAt (sheetOf (a .how) (a .r .now)) (a .i)) (a .component))
 
 add-k : tie.Need-add-k Inv-loop μ-loop
 add-k c = search needs
@@ -44,15 +52,19 @@ loop-less : tie.Need-loop-less Inv-loop μ-loop
 loop-less c = search needs
 
 loop-again : tie.Need-loop-again Inv-loop μ-loop
-loop-again c =
-    let at = c .before .before .before .loop in
-    (omega arith, least-more _ _ (at .inv .1) (sym (c .before .reaches .ensures) ∙ c .if1 .left))
+loop-again c = (omega arith, least-more _ _ (c .before .before .before .loop .inv .1) (sym (c .before .is-here .ensures) ∙ c .if1 .left))
 
 returns-2 : tie.Need-returns-2 Inv-loop μ-loop
 returns-2 c =
-    let x = c .before .before .before .before .before .before .args in
-    none-found _ _ _ (c .before .loop .inv .0) (omega arith) (c .before .loop .inv .1)
-    ∙ ap (λ (k : ℕ). least k (here (x .x .now) (x .t .now) (x .n) (reaches (pointAt (file (x .r .now)) (x .i)) (x .m)))) (c .before .before .line-count .ensures) ∙ walk-of _ _ _ _
+    let a = c .before .before .before .before .before .before .before .args in
+    let p = c .before .before .before .before .before .before .before .pre in
+    let at = c .before .loop in
+    let n = c .before .before .line-count .ensures in
+    let y = c .loop-test .left in
+    let z : c .before .before .line-count .result ≡ at .k = omega arith in
+    let u : at .k ≡ (sheetOf (a .how) (a .x .now)) .count = omega arith in
+    z ∙ sym (at .inv .1) ∙ ap (λ (i : ℕ). least i (passes (sheetOf (a .how) (a .x .now)) (c .before .before .before .coded .result) (reaches (pointAt (sheetOf (a .how) (a .r .now)) (a .i)) (a .component)))) u
+    ∙ walk-of (sheetOf (a .how) (a .x .now)) (p .1 .0) (a .tape .now) (a .«record») (p .1 .1) _ (c .before .before .before .coded .ensures) (reaches (pointAt (sheetOf (a .how) (a .r .now)) (a .i)) (a .component))
 
 pub reacher-spec : {M : Type 1} → statement M
 reacher-spec =
@@ -60,9 +72,10 @@ reacher-spec =
     (tie.spec
     Inv-loop
     μ-loop
+    coded-requires
     line-count-requires
     loop-holds
-    reaches-requires
+    is-here-requires
     returns
     add-k
     loop-less

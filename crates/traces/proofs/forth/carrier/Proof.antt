@@ -1,11 +1,11 @@
 -- `traces::forth::carrier` meets its contract. Assumes nothing.
 use Prim.Native.Nat.{_-_, _≤_, ℕ}
+use Rattle.lines.specs.Reading.{sheetOf}
 use Rattle.rules.proofs.Steps.{least-more, least-none-yet, least-stop}
 use Rattle.rules.specs.Cover.{carries}
 use Rattle.rules.specs.Places.{least}
-use Rattle.tables.proofs.Laws.{none-found}
 use Rattle.traces.proofs.Lines.{walk-of}
-use Rattle.traces.specs.Steps.{here}
+use Rattle.traces.specs.Steps.{passes}
 use borrow.Author.Needs.{needs}
 use mathlib.Core.Path.{_∙_, _≡_, ap, sym}
 use native.Mathlib.Omega.{arith}
@@ -13,10 +13,14 @@ use Rattle.traces.proofs.forth.carrier.Statement.{statement}
 use Rattle.traces.proofs.forth.carrier.Tie as tie
 
 abbrev Inv-loop : tie.InvT-loop
-Inv-loop x t tape n c count k₀ k = (k ≤ count) × (least k (here x t n (λ q. carries q c)) ≡ k)
+Inv-loop how x tape «record» channel w count k₀ k =
+    (k ≤ count) × (least k (passes (sheetOf how x) w (λ q. carries q channel)) ≡ k)
 
 abbrev μ-loop : tie.MeasureT-loop
-μ-loop x t tape n c count k₀ k = count - k
+μ-loop how x tape «record» channel w count k₀ k = count - k
+
+coded-requires : tie.Need-coded-requires Inv-loop μ-loop
+coded-requires c κs = c .before .before .pre .1
 
 line-count-requires : tie.Need-line-count-requires Inv-loop μ-loop
 line-count-requires c κs = search needs
@@ -25,15 +29,16 @@ loop-holds : tie.Need-loop-holds Inv-loop μ-loop
 loop-holds c = (omega arith, least-none-yet _)
 
 carries-requires : tie.Need-carries-requires Inv-loop μ-loop
-carries-requires c κs =
-    let n = c .before .before .line-count .ensures in
-    (c .before .before .before .before .before .pre, omega arith)
+carries-requires c κs = let n = c .before .before .line-count .ensures in omega arith
 
 returns : tie.Need-returns Inv-loop μ-loop
 returns c =
-    let at = c .before .before .before .loop in
+    let a = c .before .before .before .before .before .before .before .before .args in
+    let p = c .before .before .before .before .before .before .before .before .pre in
     let n = c .before .before .before .before .line-count .ensures in
-    sym (least-stop _ _ _ (omega arith) (at .inv .1) (sym (c .before .carries .ensures) ∙ c .if1 .taken)) ∙ walk-of _ _ _ _
+    let y = c .before .before .loop-test .taken in
+    sym (least-stop _ _ ((sheetOf (a .how) (a .x .now)) .count) (omega arith) (c .before .before .before .loop .inv .1) (sym (c .before .carries .ensures) ∙ c .if1 .taken))
+    ∙ walk-of (sheetOf (a .how) (a .x .now)) (p .0) (a .tape .now) (a .«record») (p .1) _ (c .before .before .before .before .before .coded .ensures) (λ q. carries q (a .channel))
 
 add-k : tie.Need-add-k Inv-loop μ-loop
 add-k c = search needs
@@ -42,14 +47,19 @@ loop-less : tie.Need-loop-less Inv-loop μ-loop
 loop-less c = search needs
 
 loop-again : tie.Need-loop-again Inv-loop μ-loop
-loop-again c =
-    let at = c .before .before .before .loop in
-    (omega arith, least-more _ _ (at .inv .1) (sym (c .before .carries .ensures) ∙ c .if1 .left))
+loop-again c = (omega arith, least-more _ _ (c .before .before .before .loop .inv .1) (sym (c .before .carries .ensures) ∙ c .if1 .left))
 
 returns-2 : tie.Need-returns-2 Inv-loop μ-loop
 returns-2 c =
-    let x = c .before .before .before .before .before .args in
-    none-found _ _ _ (c .before .loop .inv .0) (omega arith) (c .before .loop .inv .1) ∙ ap (λ (k : ℕ). least k (here (x .x .now) (x .t .now) (x .n) (λ q. carries q (x .c)))) (c .before .before .line-count .ensures) ∙ walk-of _ _ _ _
+    let a = c .before .before .before .before .before .before .args in
+    let p = c .before .before .before .before .before .before .pre in
+    let at = c .before .loop in
+    let n = c .before .before .line-count .ensures in
+    let y = c .loop-test .left in
+    let z : c .before .before .line-count .result ≡ at .k = omega arith in
+    let u : at .k ≡ (sheetOf (a .how) (a .x .now)) .count = omega arith in
+    z ∙ sym (at .inv .1) ∙ ap (λ (i : ℕ). least i (passes (sheetOf (a .how) (a .x .now)) (c .before .before .before .coded .result) (λ q. carries q (a .channel)))) u
+    ∙ walk-of (sheetOf (a .how) (a .x .now)) (p .0) (a .tape .now) (a .«record») (p .1) _ (c .before .before .before .coded .ensures) (λ q. carries q (a .channel))
 
 pub carrier-spec : {M : Type 1} → statement M
 carrier-spec =
@@ -57,6 +67,7 @@ carrier-spec =
     (tie.spec
     Inv-loop
     μ-loop
+    coded-requires
     line-count-requires
     loop-holds
     carries-requires

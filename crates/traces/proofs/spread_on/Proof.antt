@@ -1,0 +1,62 @@
+-- `traces::spread_on` meets its contract. Assumes nothing.
+use Rattle.rules.specs.Spread.{componentOf, lineOf, place}
+use Rattle.traces.proofs.Tables.{components-filled, leaves, lines-filled, may-fill}
+use borrow.Author.Needs.{needs}
+use Rattle.traces.proofs.spread_on.Statement.{statement}
+use Rattle.traces.proofs.spread_on.Tie as tie
+
+judged-requires : tie.Need-judged-requires
+judged-requires c κs = search needs
+
+enum-told : tie.Need-enum-told
+enum-told c = search needs
+
+returns : tie.Need-returns
+returns c =
+    let a = c .before .before .before .before .before .before .before .before .before .before .args in
+    let e = c .before .before .judged .ensures in
+    let z = c .enum-told .given .1 in
+    record {
+      answer = e;
+      lines = leaves (a .q .how) (a .r .now) (a .s .now) (a .x .now) (a .tape .now) (a .q .«record») _ _ _ e _ _ _ _ z place lineOf (a .lines .now);
+      components = leaves (a .q .how) (a .r .now) (a .s .now) (a .x .now) (a .tape .now) (a .q .«record») _ _ _ e _ _ _ _ z place componentOf (a .components .now);
+    }
+
+enum-told-2 : tie.Need-enum-told-2
+enum-told-2 c = search needs
+
+fill-requires : tie.Need-fill-requires
+fill-requires c κs =
+    let a = c .before .before .before .before .before .before .before .before .before .before .before .before .args in
+    may-fill (a .q .how) (a .r .now) (a .s .now) (a .x .now) (a .tape .now) (a .q .«record») _ _ _ (c .before .before .before .before .judged .ensures) _ (c .before .before .enum-told2 .given .1)
+
+same-length : tie.Need-same-length
+same-length c = search needs
+
+same-length-2 : tie.Need-same-length-2
+same-length-2 c = search needs
+
+returns-2 : tie.Need-returns-2
+returns-2 c =
+    let a = c .before .before .before .before .before .before .before .before .before .before .before .before .before .before .before .before .before .args in
+    let e = c .before .before .before .before .before .before .before .before .before .judged .ensures in
+    let z = c .before .before .before .before .before .before .before .enum-told2 .given .1 in
+    let w = c .before .before .before .before .fill .ensures in
+    record {
+      answer = e;
+      lines = lines-filled (a .q .how) (a .r .now) (a .s .now) (a .x .now) (a .tape .now) (a .q .«record») _ _ _ e _ z place lineOf (a .lines .now) _ (w .0);
+      components = components-filled (a .q .how) (a .r .now) (a .s .now) (a .x .now) (a .tape .now) (a .q .«record») _ _ _ e _ z (a .components .now) _ (w .1);
+    }
+
+pub spread-on-spec : {M : Type 1} → statement M
+spread-on-spec =
+    tie.close
+    (tie.spec
+    judged-requires
+    enum-told
+    returns
+    enum-told-2
+    fill-requires
+    same-length
+    same-length-2
+    returns-2)
