@@ -1,5 +1,6 @@
 -- The contracts of this crate leave one outcome: any two results, and contents of the lent slices, that meet one of them are the same.
-use mathlib.Core.Path.{refl, sym, _∙_}
+use mathlib.Core.Path.{refl, sym, ap, _∙_}
+use Rattle.rules.specs.Hosts.{hostNumber}
 use Rattle.outcome.specs.One.{One, both}
 use Rattle.sps.proofs.sps_check as sps-check
 use Rattle.sps.proofs.sps_check.Reads as sps-check-reads
@@ -25,7 +26,9 @@ pub sps-channel-one : One sps-channel.ended sps-channel-reads.Post
 sps-channel-one κs a v v′ w w′ p p′ = (p ∙ sym p′, refl)
 
 pub sps-spread-one : One sps-spread.ended sps-spread-reads.Post
-sps-spread-one κs a v v′ w w′ p p′ = (
-  p .0 ∙ sym (p′ .0),
-  both refl (both refl (both refl (both refl (both refl (both (p .1 .0 ∙ sym (p′ .1 .0)) (both (p .1 .1 ∙ sym (p′ .1 .1)) refl)))))),
-)
+sps-spread-one κs a v v′ w w′ p p′ =
+    let q = p .1 .1 in
+    let q′ = p′ .1 .1 in (
+      p .1 .0 ∙ ap hostNumber (q .answer ∙ sym (q′ .answer)) ∙ sym (p′ .1 .0),
+      both refl (both refl (both refl (both refl (both refl (both (q .lines ∙ sym (q′ .lines)) (both (q .components ∙ sym (q′ .components)) refl)))))),
+    )

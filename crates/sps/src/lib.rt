@@ -1,17 +1,17 @@
 // The calls for C hosts, which `include/sps.h` declares: the check, both lookups and the spread table, on numbers and byte slices.
 // Each carries the answer of the proved call over as one 64-bit number: a refusal from 2^40 on, any other answer below.
 ghost use mathlib.Core.Path.{_≡_};
-ghost use Prim.Native.Nat.{_/_};
-ghost use lib.ListN.{length};
 ghost use Rattle.rules.specs.Plan.{№};
 ghost use Rattle.rules.specs.Disc.{file};
 ghost use Rattle.rules.specs.Check.{check as checkOf};
 ghost use Rattle.rules.specs.Lookup.{lookup, wayBack};
-ghost use Rattle.rules.specs.Spread.{spread as spreadOf, spreadBytes, spreadComponents};
 ghost use Rattle.rules.specs.Hosts.{packed, hostNumber};
+ghost use Rattle.lines.specs.Reading.{onDisc};
 ghost use Rattle.sets.specs.Paper.{paper as setPaper};
 ghost use Rattle.traces.specs.Paper.{paper as questionPaper, paperSpread};
+ghost use Rattle.traces.specs.Calls.{tableOn};
 ghost use Rattle.sps.specs.Counts.{counted};
+ghost use Rattle.sps.specs.Table.{SpreadTold};
 use sets::Answer as SetAnswer;
 use traces::Answer;
 use traces::Spread;
@@ -67,7 +67,8 @@ pub extern "C" fn sps_check(r: &[u8], s: &[u8], x: &[u8]) -> u64
 #[no_mangle]
 pub extern "C" fn sps_counts(r: &[u8], s: &[u8], x: &[u8], counts: &mut [u64; 4]) -> u64
     ensures answer { λ n. ⌜ n ≡ hostNumber (checkOf (file (now (r .entry))) (file (now (s .entry))) (file (now (x .entry)))) ⌝ }
-    ensures written { λ _. ⌜ now (counts .exit) ≡ counted (checkOf (file (now (r .entry))) (file (now (s .entry))) (file (now (x .entry)))) (now (counts .entry)) ⌝ }
+    ensures written { λ _. ⌜ now (counts .exit)
+        ≡ counted (checkOf (file (now (r .entry))) (file (now (s .entry))) (file (now (x .entry)))) (now (counts .entry)) ⌝ }
 {
     match sets::check(r, s, x) {
         SetAnswer::Accepted(n, m, k, t) => {
@@ -80,18 +81,35 @@ pub extern "C" fn sps_counts(r: &[u8], s: &[u8], x: &[u8], counts: &mut [u64; 4]
 
 // The lookup: R line * 16 + component, 0 for no trace.
 #[no_mangle]
-pub extern "C" fn sps_trace(r: &[u8], s: &[u8], x: &[u8], t: &[u8], n: u64, c: u64) -> u64
-    ensures answer { λ a. ⌜ a ≡ hostNumber (lookup (file (now (r .entry))) (file (now (s .entry))) (file (now (x .entry))) (now (t .entry)) n c) ⌝ }
+pub extern "C" fn sps_trace(
+    r: &[u8],
+    s: &[u8],
+    x: &[u8],
+    tape: &[u8],
+    record: u64,
+    channel: u64,
+) -> u64
+    ensures answer { λ a. ⌜ a ≡ hostNumber (lookup (file (now (r .entry))) (file (now (s .entry))) (file (now (x .entry)))
+        (now (tape .entry)) «record» channel) ⌝ }
 {
-    question_number(traces::trace(r, s, x, t, n, c))
+    question_number(traces::trace(r, s, x, tape, record, channel))
 }
 
 // The way back: the channel, 0 for no trace.
 #[no_mangle]
-pub extern "C" fn sps_channel(r: &[u8], s: &[u8], x: &[u8], t: &[u8], n: u64, j: u64, m: u64) -> u64
-    ensures answer { λ a. ⌜ a ≡ hostNumber (wayBack (file (now (r .entry))) (file (now (s .entry))) (file (now (x .entry))) (now (t .entry)) n j m) ⌝ }
+pub extern "C" fn sps_channel(
+    r: &[u8],
+    s: &[u8],
+    x: &[u8],
+    tape: &[u8],
+    record: u64,
+    r_line: u64,
+    component: u64,
+) -> u64
+    ensures answer { λ a. ⌜ a ≡ hostNumber (wayBack (file (now (r .entry))) (file (now (s .entry))) (file (now (x .entry)))
+        (now (tape .entry)) «record» «r_line» component) ⌝ }
 {
-    question_number(traces::channel(r, s, x, t, n, j, m))
+    question_number(traces::channel(r, s, x, tape, record, r_line, component))
 }
 
 // The spread table: the highest channel; the lines are numbers of two bytes, low byte first.
@@ -100,13 +118,13 @@ pub extern "C" fn sps_spread(
     r: &[u8],
     s: &[u8],
     x: &[u8],
-    t: &[u8],
-    n: u64,
+    tape: &[u8],
+    record: u64,
     lines: &mut [u8],
     components: &mut [u8],
 ) -> u64
-    ensures answer { λ a. ⌜ a ≡ hostNumber (spreadOf (file (now (r .entry))) (file (now (s .entry))) (file (now (x .entry))) (now (t .entry)) n (length (now (lines .entry)) / 2) (length (now (components .entry)))) ⌝ }
-    ensures written { λ _. ⌜ (now (lines .exit) ≡ spreadBytes (file (now (r .entry))) (file (now (s .entry))) (file (now (x .entry))) (now (t .entry)) n (length (now (lines .entry)) / 2) (length (now (components .entry))) (now (lines .entry))) × (now (components .exit) ≡ spreadComponents (file (now (r .entry))) (file (now (s .entry))) (file (now (x .entry))) (now (t .entry)) n (length (now (lines .entry)) / 2) (length (now (components .entry))) (now (components .entry))) ⌝ }
+    ensures table { λ a. ⌜ SpreadTold (tableOn onDisc (now (r .entry)) (now (s .entry)) (now (x .entry)) (now (tape .entry)) «record»
+        (now (lines .entry)) (now (components .entry))) a (now (lines .exit)) (now (components .exit)) ⌝ }
 {
-    spread_number(traces::spread_bytes(r, s, x, t, n, lines, components))
+    spread_number(traces::spread_bytes(r, s, x, tape, record, lines, components))
 }

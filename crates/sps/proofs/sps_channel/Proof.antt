@@ -1,5 +1,6 @@
 -- `sps::sps_channel` meets its contract. Assumes nothing.
 use Rattle.rules.specs.Hosts.{hostNumber}
+use Rattle.lines.specs.Reading.{sheetOf}
 use borrow.Author.Needs.{needs}
 use mathlib.Core.Path.{_∙_, ap}
 use Rattle.sps.proofs.sps_channel.Statement.{statement}
@@ -12,6 +13,7 @@ question-number-requires : tie.Need-question-number-requires
 question-number-requires c κs = search needs
 
 returns : tie.Need-returns
+unfolding sheetOf
 returns c = c .question-number .ensures ∙ ap hostNumber (c .before .channel .ensures)
 
 pub sps-channel-spec : {M : Type 1} → statement M

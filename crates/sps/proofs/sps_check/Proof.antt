@@ -1,5 +1,6 @@
 -- `sps::sps_check` meets its contract. Assumes nothing.
 use Rattle.rules.specs.Hosts.{hostNumber}
+use Rattle.lines.specs.Reading.{sheetOf}
 use borrow.Author.Needs.{needs}
 use mathlib.Core.Path.{_∙_, ap}
 use Rattle.sps.proofs.sps_check.Statement.{statement}
@@ -12,6 +13,7 @@ set-number-requires : tie.Need-set-number-requires
 set-number-requires c κs = search needs
 
 returns : tie.Need-returns
+unfolding sheetOf
 returns c = c .set-number .ensures ∙ ap hostNumber (c .before .check .ensures)
 
 pub sps-check-spec : {M : Type 1} → statement M

@@ -2,6 +2,7 @@
 use Rattle.rules.specs.Hosts.{hostNumber}
 use Rattle.sets.specs.Paper.{paper}
 use Rattle.sps.specs.Counts.{counted}
+use Rattle.lines.specs.Reading.{sheetOf}
 use borrow.Author.Needs.{needs}
 use mathlib.Core.Path.{_∙_, ap, refl, sym}
 use Rattle.sps.proofs.sps_counts.Statement.{statement}
@@ -20,11 +21,11 @@ pack-requires : tie.Need-pack-requires
 pack-requires c κs = search needs
 
 returns : tie.Need-returns
-unfolding hostNumber counted
+unfolding hostNumber counted sheetOf
 returns c = rw (← (ap paper (sym (c .before .before .n .given .1)) ∙ c .before .before .before .before .check .ensures)) (refl, refl)
 
 returns-2 : tie.Need-returns-2
-unfolding hostNumber counted
+unfolding hostNumber counted sheetOf
 returns-2 c = rw (← (ap paper (sym (c .before .before .n2 .given .1)) ∙ c .before .before .before .before .check .ensures)) (c .pack .ensures, refl)
 
 pub sps-counts-spec : {M : Type 1} → statement M

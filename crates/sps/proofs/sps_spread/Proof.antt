@@ -1,7 +1,5 @@
 -- `sps::sps_spread` meets its contract. Assumes nothing.
-use Rattle.rules.specs.Hosts.{hostNumber}
 use borrow.Author.Needs.{needs}
-use mathlib.Core.Path.{_∙_, ap}
 use Rattle.sps.proofs.sps_spread.Statement.{statement}
 use Rattle.sps.proofs.sps_spread.Tie as tie
 
@@ -18,7 +16,7 @@ same-length-2 : tie.Need-same-length-2
 same-length-2 c = search needs
 
 returns : tie.Need-returns
-returns c = (c .spread-number .ensures ∙ ap hostNumber (c .before .before .before .before .before .spread-bytes .ensures .0), c .before .before .before .before .before .spread-bytes .ensures .1)
+returns c = (_, (c .spread-number .ensures, c .before .before .before .before .before .spread-bytes .ensures))
 
 pub sps-spread-spec : {M : Type 1} → statement M
 sps-spread-spec =
