@@ -30,7 +30,7 @@
  * - The memory stays, and nobody else changes it, until the call returns. The call keeps no pointer.
  * - Memory that a call writes (counts, lines, components) overlaps nothing else that it is given.
  *   Memory that it only reads may overlap.
- * - A call takes less than 1 MB of stack, and allocates nothing.
+ * - A call takes less than 200 KB of stack, and allocates nothing.
  * - Calls share nothing: they may run at the same time, also on the same files.
  */
 #ifndef SPS_H

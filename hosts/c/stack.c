@@ -7,7 +7,7 @@
 #include <string.h>
 
 /* The bytes of the stack, in whole pages; what the thread itself takes is in it. */
-enum { STACK = 999424 };
+enum { STACK = 204800 };
 
 static const uint8_t tape[] = {'1', '0', '0', ' ', ' ', ' '};
 static uint8_t lines[19998], components[9999];

@@ -20,7 +20,7 @@
 //!
 //! The calls are those of `libsps.a`, which are proved to meet the paper for every
 //! input; here their numbers get names. Files are lent and never copied, no call
-//! panics, and each takes less than 1 MB of stack. Calls share nothing, so they may
+//! panics, and each takes less than 200 KB of stack. Calls share nothing, so they may
 //! run at the same time. Numbers are `u64`, as the calls have them: a question is
 //! judged whole, and out of range it is refused ([`Number::QuestionRange`]).
 
