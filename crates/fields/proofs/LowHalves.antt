@@ -26,7 +26,8 @@ unfolding digitsAfter figuresAfter pick
 digits-figures a [] n e = cc
 digits-figures a (b ∷ bs) n e = go (digits-figures (10 * a + (b - 48)) bs n) (digit b) refl e
   where
-    go : (digitsAfter (10 * a + (b - 48)) bs ≡ plus n → figuresAfter (10 * a + (b - 48)) bs ≡ n) → (t : Bool) → digit b ≡ t → pick t (digitsAfter (10 * a + (b - 48)) bs) malformed ≡ plus n → figuresAfter (10 * a + b % 16) bs ≡ n
+    go : (digitsAfter (10 * a + (b - 48)) bs ≡ plus n → figuresAfter (10 * a + (b - 48)) bs ≡ n) → (t : Bool) → digit b ≡ t
+        → pick t (digitsAfter (10 * a + (b - 48)) bs) malformed ≡ plus n → figuresAfter (10 * a + b % 16) bs ≡ n
     go ih true y p = rw (digit-low b y) (ih p)
     go ih false y p = absurd (let z : _≡_ {A = ℕ} 0 1 = cc in omega arith)
 
@@ -35,7 +36,8 @@ unfolding justified figuresAfter pick digits
 whole-figures [] n e = absurd (let z : _≡_ {A = ℕ} 0 1 = cc in omega arith)
 whole-figures (b ∷ bs) n e = go (whole-figures bs n) (eqb b 32) refl e
   where
-    go : (justified digits bs ≡ plus n → figuresAfter 0 bs ≡ n) → (t : Bool) → eqb b 32 ≡ t → pick t (justified digits bs) (digits (b ∷ bs)) ≡ plus n → figuresAfter (10 * 0 + b % 16) bs ≡ n
+    go : (justified digits bs ≡ plus n → figuresAfter 0 bs ≡ n) → (t : Bool) → eqb b 32 ≡ t → pick t (justified digits bs) (digits (b ∷ bs)) ≡ plus n
+        → figuresAfter (10 * 0 + b % 16) bs ≡ n
     go ih true y p =
         let q = eqb-true b 32 y in
         let z : 10 * 0 + b % 16 ≡ 0 = omega arith in

@@ -49,7 +49,8 @@ module _ (s x : Sheet) (ws : KnownShots s) (four : (k : ℕ) → k < x .count �
   abbrev pub line : ℕ → ℕ
   line i = lineOf s x i
 
-  pub there : (i : ℕ) → RelationLine x i → (line i < s .count) × (isPointAt s (relationAt x i .source) (relationAt x i .shot) (relationAt x i .shotIndex) (line i) ≡ true)
+  pub there : (i : ℕ) → RelationLine x i → (line i < s .count)
+      × (isPointAt s (relationAt x i .source) (relationAt x i .shot) (relationAt x i .shotIndex) (line i) ≡ true)
   unfolding rule13 shotLine lineOfPoint
   there i h =
       let t = run-met (upTo (x .count) (shotOrder s x)) .0 (sym met) i (h .0) (h .1) .0 in

@@ -35,7 +35,8 @@ adds-byte a n b h =
     }
 
 -- one more byte of a part p
-pub adds-more : (a b c p : List ℕ) (n i m : ℕ) → i < length p → Adds a n (take i p) b (n + i) → Adds b (n + i) (getD p i 0 ∷ []) c m → Adds a n (take (i + 1) p) c (n + (i + 1))
+pub adds-more : (a b c p : List ℕ) (n i m : ℕ) → i < length p → Adds a n (take i p) b (n + i) → Adds b (n + i) (getD p i 0 ∷ []) c m
+    → Adds a n (take (i + 1) p) c (n + (i + 1))
 adds-more a b c p n i m h e f =
     let w = then e f in
     let t : take (i + 1) p ≡ take i p ++ (getD p i 0 ∷ []) = ap (λ (k : ℕ). take k p) (add-one i) ∙ take-suc p i 0 h in

@@ -76,7 +76,8 @@ read-after : (n : ℕ) → digitsAfter 0 (decimal n) ≡ plus n
 read-after n =
     digits-all (λ (m : ℕ). digitsAfter 0 (decimal m) ≡ plus m)
     (λ m h. ap (digitsAfter 0) (decimal-small m h) ∙ read-more [] 0 0 m h read-none ∙ ap plus (let z : 10 * 0 + m ≡ m = omega arith in z))
-    (λ m h e. ap (digitsAfter 0) (decimal-more m h) ∙ read-more (decimal (m / 10)) 0 (m / 10) (m % 10) (omega arith) e ∙ ap plus (let z : 10 * (m / 10) + m % 10 ≡ m = omega arith in z))
+    (λ m h e. ap (digitsAfter 0) (decimal-more m h) ∙ read-more (decimal (m / 10)) 0 (m / 10) (m % 10) (omega arith) e
+    ∙ ap plus (let z : 10 * (m / 10) + m % 10 ≡ m = omega arith in z))
     n n (omega arith)
 
 starting : (l : List ℕ) (n : ℕ) → digitsAfter 0 l ≡ plus n → 1 ≤ length l → read l ≡ plus n

@@ -24,7 +24,9 @@ lines-fit-requires c κs = few-lines _ _ (is-met _ _ (c .before .before .length-
 
 returns-2 : tie.Need-returns-2
 unfolding form
-returns-2 c = goes-on _ _ (c .before .before .before .length-fits .ensures) (c .before .enum-told2 .given .1) _ (c .lines-fit .result) (c .lines-fit .ensures) ∙ grouped _ _ _
+returns-2 c =
+    goes-on _ _ (c .before .before .before .length-fits .ensures) (c .before .enum-told2 .given .1) _ (c .lines-fit .result) (c .lines-fit .ensures)
+    ∙ grouped _ _ _
 
 pub form-spec : {M : Type 1} → statement M
 form-spec =

@@ -26,10 +26,11 @@ enum-told c = search needs
 
 returns-2 : tie.Need-returns-2
 returns-2 c =
-    let s = c .before .before .before .before .before .before in
+    let b = c .before .before in
+    let s = b .before .before .before .before in
     let a = s .args in
-    line-clean _ _ _ _ (c .before .before .before .before .stray .ensures) (c .before .before .before .if1 .left) _ (layout-is (a .how) (a .f .now)) _ (s .pre .1 .0) _ (s .pre .1 .1) _
-    (stops-at _ _ (c .before .before .rule4 .ensures) (c .enum-told .given .1) _)
+    line-clean _ _ _ _ (b .before .before .stray .ensures) (b .before .if1 .left) _ (layout-is (a .how) (a .f .now)) _ (s .pre .1 .0) _ (s .pre .1 .1) _
+    (stops-at _ _ (b .rule4 .ensures) (c .enum-told .given .1) _)
 
 enum-told-2 : tie.Need-enum-told-2
 enum-told-2 c = search needs
@@ -40,10 +41,11 @@ fields-fit-requires c κs = search needs
 
 returns-3 : tie.Need-returns-3
 returns-3 c =
-    let s = c .before .before .before .before .before .before .before in
+    let b = c .before .before .before in
+    let s = b .before .before .before .before in
     let a = s .args in
-    line-clean _ _ _ _ (c .before .before .before .before .before .stray .ensures) (c .before .before .before .before .if1 .left) _ (layout-is (a .how) (a .f .now)) _ (s .pre .1 .0) _ (s .pre .1 .1) _
-    (goes-on _ _ (c .before .before .before .rule4 .ensures) (c .before .enum-told2 .given .1) _ (c .fields-fit .result) (c .fields-fit .ensures))
+    line-clean _ _ _ _ (b .before .before .stray .ensures) (b .before .if1 .left) _ (layout-is (a .how) (a .f .now)) _ (s .pre .1 .0) _ (s .pre .1 .1) _
+    (goes-on _ _ (b .rule4 .ensures) (c .before .enum-told2 .given .1) _ (c .fields-fit .result) (c .fields-fit .ensures))
 
 pub line-fits-spec : {M : Type 1} → statement M
 line-fits-spec =

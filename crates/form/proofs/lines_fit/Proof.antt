@@ -60,10 +60,12 @@ loop-less c = omega arith
 
 loop-again : tie.Need-loop-again Inv-loop μ-loop
 loop-again c =
-    let at = c .before .before .before .before .before .before .before .before .loop in
-    let a = c .before .before .before .before .before .before .before .before .before .before .before .args in
-    let m = is-met _ (lineFits (a .i) (sheetOf (a .how) (a .f .now)) (at .k)) (c .before .before .before .before .line-fits .ensures) (c .before .before .enum-told2 .given .1) in
-    (omega arith, (headers-next (sheetOf (a .how) (a .f .now)) _ _ (at .inv .1 .0) _ (c .before .before .before .before .before .before .line-of .ensures) _ (c .still-headers .ensures), one-more _ _ (at .inv .1 .1) m))
+    let b = c .before .before .before .before in
+    let at = b .before .before .before .before .loop in
+    let a = b .before .before .before .before .before .before .before .args in
+    let F = sheetOf (a .how) (a .f .now) in
+    let m = is-met _ (lineFits (a .i) F (at .k)) (b .line-fits .ensures) (c .before .before .enum-told2 .given .1) in
+    (omega arith, (headers-next F _ _ (at .inv .1 .0) _ (b .before .before .line-of .ensures) _ (c .still-headers .ensures), one-more _ _ (at .inv .1 .1) m))
 
 returns-2 : tie.Need-returns-2 Inv-loop μ-loop
 returns-2 c =

@@ -16,7 +16,8 @@ unfolding mostLines
 at-line-requires c κs = search needs
 
 returns-2 : tie.Need-returns-2
-returns-2 c = c .at-line .ensures ∙ four-after-data _ _ _ _ _ (c .before .before .before .is-header .ensures) (c .before .before .if1 .taken) (c .before .if2 .left)
+returns-2 c =
+    c .at-line .ensures ∙ four-after-data _ _ _ _ _ (c .before .before .before .is-header .ensures) (c .before .before .if1 .taken) (c .before .if2 .left)
 
 element-copy-out-if3 : tie.Need-element-copy-out-if3
 element-copy-out-if3 c = search needs

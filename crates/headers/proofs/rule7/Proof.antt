@@ -35,7 +35,8 @@ at-line-requires c κs = let n = heads-below _ _ (c .before .before .before .bef
 returns : tie.Need-returns Inv-loop μ-loop
 returns c =
     c .at-line .ensures
-    ∙ seven-broken _ _ (c .before .before .before .before .before .heads .ensures) _ (omega arith) _ (c .before .before .has-type .ensures) (not-true _ (c .before .if1 .taken))
+    ∙ seven-broken _ _ (c .before .before .before .before .before .heads .ensures) _ (omega arith) _ (c .before .before .has-type .ensures)
+    (not-true _ (c .before .if1 .taken))
 
 add-t : tie.Need-add-t Inv-loop μ-loop
 add-t c = search needs

@@ -46,13 +46,15 @@ byte-fits-requires c κs = search needs
 
 cast-result : tie.Need-cast-result Inv-loop μ-loop
 cast-result c =
-    let a = c .before .before .before .before .before .before .before .args in
-    omega (arith, place (a .how) _ (c .before .before .before .before .before .stride .ensures) (a .f .now) (a .k) (c .before .before .before .before .before .before .before .pre))
+    let b = c .before .before .before .before .before in
+    let a = b .before .before .args in
+    omega (arith, place (a .how) _ (b .stride .ensures) (a .f .now) (a .k) (b .before .before .pre))
 
 add-result : tie.Need-add-result Inv-loop μ-loop
 add-result c =
-    let a = c .before .before .before .before .before .before .before .args in
-    omega (arith, place (a .how) _ (c .before .before .before .before .before .stride .ensures) (a .f .now) (a .k) (c .before .before .before .before .before .before .before .pre))
+    let b = c .before .before .before .before .before in
+    let a = b .before .before .args in
+    omega (arith, place (a .how) _ (b .stride .ensures) (a .f .now) (a .k) (b .before .before .pre))
 
 returns : tie.Need-returns Inv-loop μ-loop
 returns c =

@@ -43,8 +43,9 @@ returns-2 c = λ t. clash t
 
 all-printed-requires : tie.Need-all-printed-requires
 all-printed-requires c κs =
-    let a = c .before .before .before .before .before .before .args in
-    omega (arith, place (a .how) _ (c .before .before .before .before .stride .ensures) (a .f .now) (a .k) (c .before .before .before .before .before .before .pre))
+    let b = c .before .before .before .before in
+    let a = b .before .before .args in
+    omega (arith, place (a .how) _ (b .stride .ensures) (a .f .now) (a .k) (b .before .before .pre))
 
 returns-3 : tie.Need-returns-3
 returns-3 c = λ t.

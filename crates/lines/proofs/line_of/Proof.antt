@@ -59,7 +59,8 @@ returns c =
     let a = b .args in
     let s = c .before .before .stride .ensures in
     let e : at .c ≡ 80 = omega arith in
-    copied-all (a .f .now) (at .l) _ (omega (arith, place (a .how) _ s (a .f .now) (a .k) (b .pre))) (rw e at (at .inv .1)) ∙ row-from (a .how) _ s (a .f .now) (a .k)
+    copied-all (a .f .now) (at .l) _ (omega (arith, place (a .how) _ s (a .f .now) (a .k) (b .pre))) (rw e at (at .inv .1))
+    ∙ row-from (a .how) _ s (a .f .now) (a .k)
 
 pub line-of-spec : {M : Type 1} → statement M
 line-of-spec =

@@ -39,10 +39,11 @@ meets-requires c κs = search needs
 
 returns-2 : tie.Need-returns-2
 returns-2 c =
-    let st = c .before .before .before .before .before .before .before .before .before .before .before .before .before .before in
+    let b = c .before .before .before .before .before .before .before .before .before .before .before in
+    let st = b .before .before .before in
     meets-is (st .args .how) (st .args .x .now) (st .args .k) (st .args .j) (st .pre .0) (st .pre .1 .0) (st .pre .1 .1) _ _ _ _
-    (c .before .before .before .before .before .before .before .before .before .before .before .before .line-of .ensures) (c .before .before .before .reach-of .ensures)
-    (c .before .before .before .before .before .before .before .before .before .before .before .line-of2 .ensures) (c .before .reach-of2 .ensures) _ (c .meets .ensures)
+    (b .before .line-of .ensures) (c .before .before .before .reach-of .ensures)
+    (b .line-of2 .ensures) (c .before .reach-of2 .ensures) _ (c .meets .ensures)
 
 pub lines-meet-spec : {M : Type 1} → statement M
 lines-meet-spec =

@@ -19,8 +19,11 @@ same-length c = search needs
 
 returns : tie.Need-returns
 returns c =
-    let e = c .before .before .before .before .show .ensures .0 in
-    (ap length e, c .before .before .put .ensures ∙ ap (λ (p : List ℕ). over p (c .before .before .before .before .before .before .before .before .args .out .now)) e)
+    let e = c .before .before .before .before .show .ensures .0 in (
+      ap length e,
+      c .before .before .put .ensures
+          ∙ ap (λ (p : List ℕ). over p (c .before .before .before .before .before .before .before .before .args .out .now)) e,
+    )
 
 pub probe-show-spec : {M : Type 1} → statement M
 probe-show-spec = tie.close (tie.spec show-requires put-requires same-length returns)

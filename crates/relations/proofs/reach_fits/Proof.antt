@@ -21,10 +21,17 @@ first-row-requires c κs = let p = c .before .before .before .before .pre in ((p
 all-there-requires : tie.Need-all-there-requires
 all-there-requires c κs =
     let p = c .before .before .before .before .before .pre in
-    record { receivers = p .receivers; rows = p .rows; relations = p .relations; line = p .lines .1 _ (p .lines .0) (omega arith); first = c .first-row .ensures }
+    record {
+      receivers = p .receivers;
+      rows = p .rows;
+      relations = p .relations;
+      line = p .lines .1 _ (p .lines .0) (omega arith);
+      first = c .first-row .ensures;
+    }
 
 at-line-requires : tie.Need-at-line-requires
-at-line-requires c κs = let p = c .before .before .before .before .before .before .before .pre in line-small _ (p .relations .few) (p .lines .1 _ (p .lines .0) (omega arith) .0)
+at-line-requires c κs =
+    let p = c .before .before .before .before .before .before .before .pre in line-small _ (p .relations .few) (p .lines .1 _ (p .lines .0) (omega arith) .0)
 
 returns : tie.Need-returns
 returns c =
@@ -35,16 +42,19 @@ returns c =
     )
 
 covered-once-requires : tie.Need-covered-once-requires
-covered-once-requires c κs = ready _ _ _ _ (c .before .before .all-there .ensures) _ _ _ (c .before .before .before .before .before .before .before .before .pre) (not-false _ (c .before .if1 .left))
+covered-once-requires c κs =
+    ready _ _ _ _ (c .before .before .all-there .ensures) _ _ _ (c .before .before .before .before .before .before .before .before .pre)
+    (not-false _ (c .before .if1 .left))
 
 same-length : tie.Need-same-length
 same-length c = search needs
 
 returns-2 : tie.Need-returns-2
-returns-2 c = (
-  eighteen-fine _ _ _ _ (c .before .before .before .before .before .all-there .ensures) (not-false _ (c .before .before .before .before .if1 .left)) _ (c .before .before .covered-once .ensures .0),
-  c .before .before .covered-once .ensures .1,
-)
+returns-2 c =
+    let b = c .before .before in (
+      eighteen-fine _ _ _ _ (b .before .before .before .all-there .ensures) (not-false _ (b .before .before .if1 .left)) _ (b .covered-once .ensures .0),
+      b .covered-once .ensures .1,
+    )
 
 pub reach-fits-spec : {M : Type 1} → statement M
 reach-fits-spec =

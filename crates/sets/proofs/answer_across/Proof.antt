@@ -29,7 +29,8 @@ counted-requires : tie.Need-counted-requires
 counted-requires c κs = c .before .before .before .before .before .before .before .before .before .before .pre
 
 returns-2 : tie.Need-returns-2
-returns-2 c = c .counted .ensures ∙ accepts _ _ (is-met _ _ (c .before .before .before .before .before .verdict-across .ensures) (c .before .enum-told .given .1))
+returns-2 c =
+    c .counted .ensures ∙ accepts _ _ (is-met _ _ (c .before .before .before .before .before .verdict-across .ensures) (c .before .enum-told .given .1))
 
 pub answer-across-spec : {M : Type 1} → statement M
 answer-across-spec =

@@ -28,21 +28,24 @@ enum-known-u c = search needs
 
 returns-2 : tie.Need-returns-2
 returns-2 c =
-    refused-heads _ _ _ (is-met _ _ (c .before .before .before .before .before .before .forms .ensures) (c .before .before .before .before .enum-told .given .1)) _
-    (is-broken _ _ (c .before .before .before .headers-fit .ensures) (c .before .u .given .1))
+    let b = c .before .before .before in
+    refused-heads _ _ _ (is-met _ _ (b .before .before .before .forms .ensures) (b .before .enum-told .given .1)) _
+    (is-broken _ _ (b .headers-fit .ensures) (c .before .u .given .1))
 
 enum-told-2 : tie.Need-enum-told-2
 enum-told-2 c = search needs
 
 answer-across-requires : tie.Need-answer-across-requires
 answer-across-requires c κs =
-    let a = c .before .before .before .before .before .before .before .before .before .args in
-    known-set (a .how) (a .r .now) (a .s .now) (a .x .now) (is-met _ _ (c .before .before .before .before .before .forms .ensures) (c .before .before .before .enum-told .given .1))
+    let b = c .before .before .before in
+    let a = b .before .before .before .before .before .before .args in
+    known-set (a .how) (a .r .now) (a .s .now) (a .x .now) (is-met _ _ (b .before .before .forms .ensures) (b .enum-told .given .1))
 
 returns-3 : tie.Need-returns-3
 returns-3 c =
-    judged-across _ _ _ (is-met _ _ (c .before .before .before .before .before .before .forms .ensures) (c .before .before .before .before .enum-told .given .1)) _
-    (is-met _ _ (c .before .before .before .headers-fit .ensures) (c .before .enum-told2 .given .1)) (c .answer-across .ensures)
+    let b = c .before .before .before in
+    judged-across _ _ _ (is-met _ _ (b .before .before .before .forms .ensures) (b .before .enum-told .given .1)) _
+    (is-met _ _ (b .headers-fit .ensures) (c .before .enum-told2 .given .1)) (c .answer-across .ensures)
 
 pub check-on-spec : {M : Type 1} → statement M
 check-on-spec =

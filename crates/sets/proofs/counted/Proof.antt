@@ -16,7 +16,9 @@ traces-requires : tie.Need-traces-requires
 traces-requires c κs = c .before .before .before .before .before .before .pre .relations
 
 returns : tie.Need-returns
-returns c = counted-is _ _ _ _ _ _ _ (c .before .before .before .points .ensures) (c .before .before .points2 .ensures) (c .before .relations .ensures) (c .traces .ensures)
+returns c =
+    counted-is _ _ _ _ _ _ _ (c .before .before .before .points .ensures) (c .before .before .points2 .ensures) (c .before .relations .ensures)
+    (c .traces .ensures)
 
 pub counted-spec : {M : Type 1} → statement M
 counted-spec =

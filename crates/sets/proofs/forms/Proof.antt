@@ -24,8 +24,9 @@ enum-told-3 c = search needs
 
 returns-2 : tie.Need-returns-2
 returns-2 c =
-    goes-on _ _ (c .before .before .before .before .before .form .ensures) (c .before .before .before .enum-told2 .given .1) _ (c .before .before .form2 .result)
-    (stops-at _ _ (c .before .before .form2 .ensures) (c .enum-told3 .given .1) _)
+    let b = c .before .before in
+    goes-on _ _ (b .before .before .before .form .ensures) (b .before .enum-told2 .given .1) _ (b .form2 .result)
+    (stops-at _ _ (b .form2 .ensures) (c .enum-told3 .given .1) _)
 
 enum-told-4 : tie.Need-enum-told-4
 enum-told-4 c = search needs
@@ -35,8 +36,9 @@ form-requires-3 c κs = search needs
 
 returns-3 : tie.Need-returns-3
 returns-3 c =
-    goes-on _ _ (c .before .before .before .before .before .before .form .ensures) (c .before .before .before .before .enum-told2 .given .1) _ (c .form3 .result)
-    (goes-on _ _ (c .before .before .before .form2 .ensures) (c .before .enum-told4 .given .1) _ (c .form3 .result) (c .form3 .ensures))
+    let b = c .before .before .before in
+    goes-on _ _ (b .before .before .before .form .ensures) (b .before .enum-told2 .given .1) _ (c .form3 .result)
+    (goes-on _ _ (b .form2 .ensures) (c .before .enum-told4 .given .1) _ (c .form3 .result) (c .form3 .ensures))
 
 pub forms-spec : {M : Type 1} → statement M
 forms-spec =

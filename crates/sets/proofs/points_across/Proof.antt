@@ -26,7 +26,10 @@ first-repeat-requires c κs =
     (small-keys 2 _ (p .0 .1) Points, (few, (omega (arith, few, p .1 .0), omega (arith, few, p .1 .1))))
 
 shots-fit-requires : tie.Need-shots-fit-requires
-shots-fit-requires c κs = (c .before .before .before .before .before .before .before .before .before .before .before .before .before .before .pre .0 .1, (c .before .before .before .before .first-repeat .ensures, omega arith))
+shots-fit-requires c κs = (
+  c .before .before .before .before .before .before .before .before .before .before .before .before .before .before .pre .0 .1,
+  (c .before .before .before .before .first-repeat .ensures, omega arith),
+)
 
 same-length : tie.Need-same-length
 same-length c = search needs
@@ -35,7 +38,9 @@ same-length-2 : tie.Need-same-length-2
 same-length-2 c = search needs
 
 returns-2 : tie.Need-returns-2
-returns-2 c = goes-on _ _ (c .before .before .before .before .before .before .before .before .before .before .receivers-fit .ensures) (c .before .before .before .before .before .before .before .before .enum-told2 .given .1) _ (c .shots-fit .result) (c .shots-fit .ensures)
+returns-2 c =
+    let b = c .before .before .before .before .before .before .before .before in
+    goes-on _ _ (b .before .before .receivers-fit .ensures) (b .enum-told2 .given .1) _ (c .shots-fit .result) (c .shots-fit .ensures)
 
 pub points-across-spec : {M : Type 1} → statement M
 points-across-spec =

@@ -29,14 +29,15 @@ slice-aggregate-relations-fit c = sym (length-take-le _ _ (c .before .before .be
 
 relations-fit-requires : tie.Need-relations-fit-requires
 relations-fit-requires c κs =
-    let p = c .before .before .before .before .before .before .before .before .before .before .before .before .before .before .before .before .before .before .before .before .before .pre in
+    let b = c .before .before .before .before .before .before .before .before .before .before .before .before .before in
+    let p = b .before .before .before .before .before .before .before .before .pre in
     let rows = c .before .before .before .before .before .before .in-order .ensures in
     record {
       receivers = p .0 .receivers;
       rows = order-taken _ _ _ _ _ rows;
       shots = p .0 .shots;
       relations = p .0 .relations;
-      first = c .before .before .before .before .before .before .before .before .before .before .before .before .before .first-repeat .ensures;
+      first = b .first-repeat .ensures;
       room = omega (arith, few-rows 1 _ (p .0 .receivers .0) Receivers _ _ rows, p .1 .1);
     }
 

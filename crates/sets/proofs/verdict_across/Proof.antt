@@ -26,8 +26,9 @@ enum-told-2 c = search needs
 
 relations-across-requires : tie.Need-relations-across-requires
 relations-across-requires c κs =
-    let p = c .before .before .before .before .before .before .before .before .before .before .before .before .before .before .before .before .pre in (
-      in-order _ _ _ (p .0) (is-met _ _ (c .before .before .before .before .before .before .before .before .points-across .ensures) (c .before .before .enum-told2 .given .1)),
+    let b = c .before .before .before .before .before .before .before .before in
+    let p = b .before .before .before .before .before .before .before .before .pre in (
+      in-order _ _ _ (p .0) (is-met _ _ (b .points-across .ensures) (c .before .before .enum-told2 .given .1)),
       (omega (arith, p .1 .0), omega (arith, p .1 .1)),
     )
 
@@ -42,7 +43,9 @@ same-length-4 c = search needs
 
 returns-2 : tie.Need-returns-2
 returns-2 c =
-    relations-stop _ _ _ _ (c .before .before .before .before .before .before .before .before .before .before .before .before .before .before .before .points-across .ensures) (c .before .before .before .before .before .before .before .before .before .enum-told2 .given .1) _ (c .before .before .before .before .before .before .relations-across .ensures)
+    let b = c .before .before .before .before .before .before in
+    relations-stop _ _ _ _ (b .before .before .before .before .before .before .before .before .before .points-across .ensures)
+    (b .before .before .before .enum-told2 .given .1) _ (b .relations-across .ensures)
     (c .enum-told3 .given .1)
 
 enum-told-4 : tie.Need-enum-told-4
@@ -50,8 +53,11 @@ enum-told-4 c = search needs
 
 shots-named-requires : tie.Need-shots-named-requires
 shots-named-requires c κs =
-    let z = in-order _ _ _ (c .before .before .before .before .before .before .before .before .before .before .before .before .before .before .before .before .before .before .before .before .before .before .before .pre .0) (is-met _ _ (c .before .before .before .before .before .before .before .before .before .before .before .before .before .before .before .points-across .ensures) (c .before .before .before .before .before .before .before .before .before .enum-told2 .given .1)) in
-    shots-in-order _ _ _ z (is-met _ _ (c .before .before .before .before .before .before .relations-across .ensures) (c .enum-told4 .given .1))
+    let b = c .before .before .before .before .before .before in
+    let d = b .before .before .before .before .before .before .before .before .before in
+    let z = in-order _ _ _ (d .before .before .before .before .before .before .before .before .pre .0)
+    (is-met _ _ (d .points-across .ensures) (b .before .before .before .enum-told2 .given .1)) in
+    shots-in-order _ _ _ z (is-met _ _ (b .relations-across .ensures) (c .enum-told4 .given .1))
 
 same-length-5 : tie.Need-same-length-5
 same-length-5 c = search needs
@@ -61,7 +67,9 @@ same-length-6 c = search needs
 
 returns-3 : tie.Need-returns-3
 returns-3 c =
-    shots-last _ _ _ _ (c .before .before .before .before .before .before .before .before .before .before .before .before .before .before .before .before .points-across .ensures) (c .before .before .before .before .before .before .before .before .before .before .enum-told2 .given .1) _ (c .before .before .before .before .before .before .before .relations-across .ensures)
+    let b = c .before .before .before .before .before .before .before in
+    shots-last _ _ _ _ (b .before .before .before .before .before .before .before .before .before .points-across .ensures)
+    (b .before .before .before .enum-told2 .given .1) _ (b .relations-across .ensures)
     (c .before .enum-told4 .given .1) (c .shots-named .result) (c .shots-named .ensures)
 
 pub verdict-across-spec : {M : Type 1} → statement M

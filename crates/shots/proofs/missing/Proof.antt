@@ -29,7 +29,8 @@ returns c =
     let p = d .before .before .before .before .before .pre in
     let n = d .before .line-count .ensures in
     c .at-line .ensures
-    ∙ gone-before _ _ (p .shots) (a .k) 14 (source-column (a .how) (a .x .now)) (p .gone) _ (d .before .before .onward .ensures) (let l = d .if1 .taken in omega arith)
+    ∙ gone-before _ _ (p .shots) (a .k) 14 (source-column (a .how) (a .x .now)) (p .gone) _ (d .before .before .onward .ensures)
+    (let l = d .if1 .taken in omega arith)
 
 at-line-requires-2 : tie.Need-at-line-requires-2
 at-line-requires-2 c κs = let p = c .before .before .before .before .before .pre in line-small _ (p .relations .few) (p .line .0)
@@ -41,7 +42,8 @@ returns-2 c =
     let p = d .before .before .before .before .before .pre in
     let n = d .before .line-count .ensures in
     c .at-line2 .ensures
-    ∙ gone _ _ (p .shots) (a .k) 14 (source-column (a .how) (a .x .now)) (p .gone) _ (d .before .before .onward .ensures) (λ g. let l = d .if1 .left in omega arith)
+    ∙ gone _ _ (p .shots) (a .k) 14 (source-column (a .how) (a .x .now)) (p .gone) _ (d .before .before .onward .ensures)
+    (λ g. let l = d .if1 .left in omega arith)
 
 pub missing-spec : {M : Type 1} → statement M
 missing-spec =

@@ -24,22 +24,28 @@ returns : tie.Need-returns
 unfolding namesKey
 returns c =
     let a = c .before .before .before .before .before .args in
-    let w = c .before .before .before .shot-key .ensures ∙ ap (λ (L : Layout). shotKey L (sheetOf (a .how) (a .x .now) .row (a .i))) (sym (layout-is (a .how) (a .x .now))) in
+    let w = c .before .before .before .shot-key .ensures ∙ ap (λ (L : Layout). shotKey L (sheetOf (a .how) (a .x .now) .row (a .i)))
+    (sym (layout-is (a .how) (a .x .now))) in
     first-other _ _ false _ (ap (λ (y : Key). y .first) w) (c .if1 .taken)
 
 returns-2 : tie.Need-returns-2
 unfolding namesKey
 returns-2 c =
-    let a = c .before .before .before .before .before .before .before .before .args in
-    let w = c .before .before .before .before .before .before .shot-key .ensures ∙ ap (λ (L : Layout). shotKey L (sheetOf (a .how) (a .x .now) .row (a .i))) (sym (layout-is (a .how) (a .x .now))) in
-    second-other _ _ false _ (ap (λ (y : Key). y .first) w) (c .before .before .before .if1 .left) _ (ap (λ (y : Key). y .second) w) (c .if2 .taken)
+    let b = c .before .before .before in
+    let a = b .before .before .before .before .before .args in
+    let w = b .before .before .before .shot-key .ensures ∙ ap (λ (L : Layout). shotKey L (sheetOf (a .how) (a .x .now) .row (a .i)))
+    (sym (layout-is (a .how) (a .x .now))) in
+    second-other _ _ false _ (ap (λ (y : Key). y .first) w) (b .if1 .left) _ (ap (λ (y : Key). y .second) w) (c .if2 .taken)
 
 returns-3 : tie.Need-returns-3
 unfolding namesKey
 returns-3 c =
-    let a = c .before .before .before .before .before .before .before .before .before .before .args in
-    let w = c .before .before .before .before .before .before .before .before .shot-key .ensures ∙ ap (λ (L : Layout). shotKey L (sheetOf (a .how) (a .x .now) .row (a .i))) (sym (layout-is (a .how) (a .x .now))) in
-    third-same _ _ false _ (ap (λ (y : Key). y .first) w) (c .before .before .before .before .before .if1 .left) _ (ap (λ (y : Key). y .second) w) (c .before .before .if2 .left) _ (ap (λ (y : Key). y .third) w)
+    let b = c .before .before .before .before .before in
+    let a = b .before .before .before .before .before .args in
+    let w = b .before .before .before .shot-key .ensures ∙ ap (λ (L : Layout). shotKey L (sheetOf (a .how) (a .x .now) .row (a .i)))
+    (sym (layout-is (a .how) (a .x .now))) in
+    third-same _ _ false _ (ap (λ (y : Key). y .first) w) (b .if1 .left) _ (ap (λ (y : Key). y .second) w) (c .before .before .if2 .left) _
+    (ap (λ (y : Key). y .third) w)
 
 pub names-spec : {M : Type 1} → statement M
 names-spec = tie.close (tie.spec shot-key-requires returns returns-2 returns-3)

@@ -39,11 +39,13 @@ holds-requires c κs = search needs
 returns : tie.Need-returns Inv-loop μ-loop
 unfolding onward
 returns c =
-    let a = c .before .before .before .before .before .before .before .before .args in
-    let p = c .before .before .before .before .before .before .before .before .pre in
-    let at = c .before .before .before .loop in
-    let n = c .before .before .before .before .line-count .ensures in
-    let e = c .before .holds .ensures ∙ held-at (a .how) (a .s .now) (a .x .now) (p .0 .0) (p .0 .1) (a .k) (p .1) _ (c .before .before .before .before .before .shot-key .ensures) (at .j) (omega arith) in
+    let b = c .before .before .before in
+    let a = b .before .before .before .before .before .args in
+    let p = b .before .before .before .before .before .pre in
+    let at = b .loop in
+    let n = b .before .line-count .ensures in
+    let e = c .before .holds .ensures ∙ held-at (a .how) (a .s .now) (a .x .now) (p .0 .0) (p .0 .1) (a .k) (p .1) _
+    (b .before .before .shot-key .ensures) (at .j) (omega arith) in
     from-first _ _ _ (at .j) (at .inv .0) (omega arith) (sym e ∙ c .if1 .taken) (at .inv .1)
 
 add-j : tie.Need-add-j Inv-loop μ-loop
@@ -54,11 +56,13 @@ loop-less c = search needs
 
 loop-again : tie.Need-loop-again Inv-loop μ-loop
 loop-again c =
-    let a = c .before .before .before .before .before .before .before .before .args in
-    let p = c .before .before .before .before .before .before .before .before .pre in
-    let at = c .before .before .before .loop in
-    let n = c .before .before .before .before .line-count .ensures in
-    let e = c .before .holds .ensures ∙ held-at (a .how) (a .s .now) (a .x .now) (p .0 .0) (p .0 .1) (a .k) (p .1) _ (c .before .before .before .before .before .shot-key .ensures) (at .j) (omega arith) in
+    let b = c .before .before .before in
+    let a = b .before .before .before .before .before .args in
+    let p = b .before .before .before .before .before .pre in
+    let at = b .loop in
+    let n = b .before .line-count .ensures in
+    let e = c .before .holds .ensures ∙ held-at (a .how) (a .s .now) (a .x .now) (p .0 .0) (p .0 .1) (a .k) (p .1) _
+    (b .before .before .shot-key .ensures) (at .j) (omega arith) in
     (omega arith, past-more _ _ (at .j) (at .inv .1) (λ t. clash (sym (c .if1 .left) ∙ e ∙ t)))
 
 returns-2 : tie.Need-returns-2 Inv-loop μ-loop

@@ -59,14 +59,17 @@ at-line-requires c κs =
 
 returns : tie.Need-returns Inv-loop μ-loop
 returns c =
-    let a = c .before .before .before .before .before .before .before .before .before .before .before .before .args in
-    let p = c .before .before .before .before .before .before .before .before .before .before .before .before .pre in
-    let at = c .before .before .before .before .before .before .before .loop in
-    let n = c .before .before .before .before .before .before .before .before .before .line-count .ensures in
-    let h : at .k < sheetOf (a .how) (a .s .now) .count = omega arith in
+    let b = c .before .before .before .before .before .before .before in
+    let a = b .before .before .before .before .before .args in
+    let p = b .before .before .before .before .before .pre in
+    let at = b .loop in
+    let n = b .before .before .line-count .ensures in
+    let h : at .k < sheetOf (a .how) (a .s .now) .count = omega (arith, c .before .before .before .before .before .before .loop-test .taken) in
     c .at-line .ensures
     ∙ stops-here _ (at .k) _ _ h (at .inv .1 .1)
-    (step-unnamed _ _ p (at .k) (at .j) h (at .inv .1 .0) _ (c .before .before .before .before .before .takes .ensures) (c .before .before .before .before .if1 .taken) _ (c .before .before .before .key-of .ensures) _ (c .before .before .past .ensures) (c .before .if2 .taken))
+    (step-unnamed _ _ p (at .k) (at .j) h (at .inv .1 .0) _ (c .before .before .before .before .before .takes .ensures)
+    (c .before .before .before .before .if1 .taken) _ (c .before .before .before .key-of .ensures) _ (c .before .before .past .ensures)
+    (c .before .if2 .taken))
 
 add-k : tie.Need-add-k Inv-loop μ-loop
 add-k c = search needs
@@ -76,12 +79,14 @@ loop-less c = search needs
 
 loop-again : tie.Need-loop-again Inv-loop μ-loop
 loop-again c =
-    let a = c .before .before .before .before .before .before .before .before .before .before .before .args in
-    let p = c .before .before .before .before .before .before .before .before .before .before .before .pre in
-    let at = c .before .before .before .before .before .before .loop in
-    let n = c .before .before .before .before .before .before .before .before .line-count .ensures in
+    let b = c .before .before .before .before .before .before in
+    let a = b .before .before .before .before .before .args in
+    let p = b .before .before .before .before .before .pre in
+    let at = b .loop in
+    let n = b .before .before .line-count .ensures in
     let h : at .k < sheetOf (a .how) (a .s .now) .count = omega arith in
-    let w = step-named _ _ p (at .k) (at .j) h (at .inv .1 .0) _ (c .before .before .before .before .takes .ensures) (c .before .before .before .if1 .taken) _ (c .before .before .key-of .ensures) _ (c .before .past .ensures) (c .if2 .left) in
+    let w = step-named _ _ p (at .k) (at .j) h (at .inv .1 .0) _ (c .before .before .before .before .takes .ensures)
+    (c .before .before .before .if1 .taken) _ (c .before .before .key-of .ensures) _ (c .before .past .ensures) (c .if2 .left) in
     (omega arith, (w .1, one-more _ (at .k) (at .inv .1 .1) (w .0)))
 
 add-k-2 : tie.Need-add-k-2 Inv-loop μ-loop

@@ -46,13 +46,18 @@ same-length-2 c = search needs
 returns : tie.Need-returns
 unfolding lineOf
 returns c =
-    let a = c .before .before .before .before .before .before .before .before .before .before .before .before .before .before .before .before .before .before .args in
-    let p = c .before .before .before .before .before .before .before .before .before .before .before .before .before .before .before .before .before .before .pre in
-    let e = c .before .before .before .before .before .before .before .before .before .before .before .before .highest .ensures in
-    let l = ap length (c .before .before .before .before .before .before .clear .ensures) ∙ turns-length (λ _. 0) _ _ in
+    let b = c .before .before .before .before .before .before in
+    let d = b .before .before .before .before in
+    let a = d .before .before .before .before .before .before .before .before .args in
+    let R = sheetOf (a .how) (a .r .now) in
+    let X = sheetOf (a .how) (a .x .now) in
+    let p = d .before .before .before .before .before .before .before .before .pre in
+    let e = d .before .before .highest .ensures in
+    let l = ap length (b .clear .ensures) ∙ turns-length (λ _. 0) _ _ in
     let u = p .1 .0 in (
-      whole (sheetOf (a .how) (a .r .now)) (sheetOf (a .how) (a .x .now)) (a .tape .now) (a .«record») lineOf refl (lineAt (sheetOf (a .how) (a .r .now)) (sheetOf (a .how) (a .x .now)) (a .tape .now) (a .«record»)) (λ i. refl) place numbers _ _ e (omega arith) _ _ _ (c .before .before .before .before .before .before .clear .ensures) (c .before .before .put-numbers .ensures),
-      c .before .before .before .before .before .before .before .before .before .before .fill-components .ensures,
+      whole R X (a .tape .now) (a .«record») lineOf refl (lineAt R X (a .tape .now) (a .«record»)) (λ i. refl) place numbers _ _ e (omega arith) _ _ _
+          (b .clear .ensures) (c .before .before .put-numbers .ensures),
+      d .fill-components .ensures,
     )
 
 pub fill-spec : {M : Type 1} → statement M

@@ -25,9 +25,10 @@ fill-components-requires c κs =
 
 mul-clear : tie.Need-mul-clear
 mul-clear c =
+    let b = c .before .before .before .before .before .before .before .before .before .before in
     let e = c .before .before .before .before .highest .ensures in
-    let a = c .before .before .before .before .before .before .before .before .before .before .args in
-    let u = highest-small (sheetOf (a .how) (a .x .now)) (a .tape .now) (a .«record») (c .before .before .before .before .before .before .before .before .before .before .pre .0 .0 .relations) in
+    let a = b .args in
+    let u = highest-small (sheetOf (a .how) (a .x .now)) (a .tape .now) (a .«record») (b .pre .0 .0 .relations) in
     omega arith
 
 clear-requires : tie.Need-clear-requires
@@ -53,13 +54,19 @@ same-length-2 c = search needs
 returns : tie.Need-returns
 unfolding lineOf
 returns c =
-    let a = c .before .before .before .before .before .before .before .before .before .before .before .before .before .before .before .before .before .before .args in
-    let p = c .before .before .before .before .before .before .before .before .before .before .before .before .before .before .before .before .before .before .pre in
-    let e = c .before .before .before .before .before .before .before .before .before .before .before .before .highest .ensures in
+    let b = c .before .before .before .before .before .before .before .before .before .before in
+    let d = b .before .before .before .before .before .before .before .before in
+    let a = d .args in
+    let R = sheetOf (a .how) (a .r .now) in
+    let X = sheetOf (a .how) (a .x .now) in
+    let p = d .pre in
+    let e = b .before .before .highest .ensures in
     let l = ap length (c .before .before .before .before .before .before .clear .ensures) ∙ turns-length (λ _. 0) _ _ in
     let u = p .1 .0 in (
-      whole (sheetOf (a .how) (a .r .now)) (sheetOf (a .how) (a .x .now)) (a .tape .now) (a .«record») lineOf refl (lineAt (sheetOf (a .how) (a .r .now)) (sheetOf (a .how) (a .x .now)) (a .tape .now) (a .«record»)) (λ i. refl) bytePlace bytes _ _ e (omega arith) _ _ _ (c .before .before .before .before .before .before .clear .ensures ∙ bytes-cleared (c .before .before .before .before .before .before .before .before .before .before .before .before .highest .result) (a .lines .now)) (c .before .before .put-bytes .ensures),
-      c .before .before .before .before .before .before .before .before .before .before .fill-components .ensures,
+      whole R X (a .tape .now) (a .«record») lineOf refl (lineAt R X (a .tape .now) (a .«record»)) (λ i. refl) bytePlace bytes _ _ e (omega arith) _ _
+          _ (c .before .before .before .before .before .before .clear .ensures ∙ bytes-cleared (b .before .before .highest .result) (a .lines .now))
+          (c .before .before .put-bytes .ensures),
+      b .fill-components .ensures,
     )
 
 pub fill-bytes-spec : {M : Type 1} → statement M

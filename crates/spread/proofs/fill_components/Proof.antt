@@ -29,12 +29,15 @@ same-length c = search needs
 returns : tie.Need-returns
 unfolding componentOf
 returns c =
-    let a = c .before .before .before .before .before .before .before .before .before .before .before .args in
-    let p = c .before .before .before .before .before .before .before .before .before .before .before .pre in
-    let l = ap length (c .before .before .before .before .before .before .clear .ensures) ∙ turns-length (λ _. 0) _ _ in
+    let b = c .before .before .before .before .before .before in
+    let a = b .before .before .before .before .before .args in
+    let X = sheetOf (a .how) (a .x .now) in
+    let p = b .before .before .before .before .before .pre in
+    let l = ap length (b .clear .ensures) ∙ turns-length (λ _. 0) _ _ in
     let g = p .1 .1 .1 in
-    whole (p .0 .0) (sheetOf (a .how) (a .x .now)) (a .tape .now) (a .«record») componentOf refl (componentAt (sheetOf (a .how) (a .x .now)) (a .tape .now) (a .«record»)) (component-at (p .0 .0) (sheetOf (a .how) (a .x .now)) (a .tape .now) (a .«record»)) place numbers _ _ (p .1 .1 .0) (omega arith) _ _ _
-    (c .before .before .before .before .before .before .clear .ensures) (c .before .before .put-all .ensures)
+    whole (p .0 .0) X (a .tape .now) (a .«record») componentOf refl (componentAt X (a .tape .now) (a .«record»))
+    (component-at (p .0 .0) X (a .tape .now) (a .«record»)) place numbers _ _ (p .1 .1 .0) (omega arith) _ _ _
+    (b .clear .ensures) (c .before .before .put-all .ensures)
 
 pub fill-components-spec : {M : Type 1} → statement M
 fill-components-spec =

@@ -51,12 +51,15 @@ loop-again-2 c = (omega arith, no-greater _ _ _ _ (c .before .before .before .lo
 
 returns : tie.Need-returns Inv-loop μ-loop
 returns c =
-    let a = c .before .before .before .before .before .before .args in
+    let b = c .before .before .before in
+    let d = b .before .before .before in
+    let a = d .args in
+    let X = sheetOf (a .how) (a .x .now) in
     let at = c .before .loop in
     let n = c .before .before .line-count .ensures in
-    let z : at .k ≡ (sheetOf (a .how) (a .x .now)) .count = omega arith in
-    at .inv .1 ∙ ap (λ (i : ℕ). greatest i (λ j. pick (isOf (sheetOf (a .how) (a .x .now)) (c .before .before .before .coded .result) j) (reachAt (sheetOf (a .how) (a .x .now)) j .upto) 0)) z
-    ∙ highest-by (sheetOf (a .how) (a .x .now)) (c .before .before .before .before .before .before .pre .0) (a .tape .now) (a .«record») (c .before .before .before .before .before .before .pre .1) _ (c .before .before .before .coded .ensures)
+    let z : at .k ≡ X .count = omega arith in
+    at .inv .1 ∙ ap (λ (i : ℕ). greatest i (λ j. pick (isOf X (b .coded .result) j) (reachAt X j .upto) 0)) z
+    ∙ highest-by X (d .pre .0) (a .tape .now) (a .«record») (d .pre .1) _ (b .coded .ensures)
 
 pub highest-spec : {M : Type 1} → statement M
 highest-spec =

@@ -12,8 +12,9 @@ slice-aggregate-in-order c = search needs
 
 in-order-requires : tie.Need-in-order-requires
 in-order-requires c κs =
-    let a = c .before .before .before .before .args in
-    sortable (sheetOf (a .how) (a .r .now)) (a .o .now) (replicate 9999 0) (c .before .before .before .before .pre .0) (c .before .before .before .before .pre .1) (length-replicate {A = ℕ} 9999 0)
+    let b = c .before .before .before .before in
+    let a = b .args in
+    sortable (sheetOf (a .how) (a .r .now)) (a .o .now) (replicate 9999 0) (b .pre .0) (b .pre .1) (length-replicate {A = ℕ} 9999 0)
 
 same-length : tie.Need-same-length
 same-length c = search needs

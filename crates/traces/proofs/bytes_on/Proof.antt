@@ -20,7 +20,8 @@ returns c =
     record {
       answer = e;
       lines = leaves (a .q .how) (a .r .now) (a .s .now) (a .x .now) (a .tape .now) (a .q .«record») _ _ _ e _ _ _ _ z bytePlace lineOf (a .lines .now);
-      components = leaves (a .q .how) (a .r .now) (a .s .now) (a .x .now) (a .tape .now) (a .q .«record») _ _ _ e _ _ _ _ z place componentOf (a .components .now);
+      components = leaves (a .q .how) (a .r .now) (a .s .now) (a .x .now) (a .tape .now) (a .q .«record») _ _ _ e _ _ _ _ z place componentOf
+          (a .components .now);
     }
 
 enum-told-2 : tie.Need-enum-told-2
@@ -29,7 +30,8 @@ enum-told-2 c = search needs
 fill-bytes-requires : tie.Need-fill-bytes-requires
 fill-bytes-requires c κs =
     let a = c .before .before .before .before .before .before .before .before .before .before .before .before .args in
-    let w = may-fill (a .q .how) (a .r .now) (a .s .now) (a .x .now) (a .tape .now) (a .q .«record») _ _ _ (c .before .before .before .before .judged .ensures) _ (c .before .before .enum-told2 .given .1) in
+    let w = may-fill (a .q .how) (a .r .now) (a .s .now) (a .x .now) (a .tape .now) (a .q .«record») _ _ _
+    (c .before .before .before .before .judged .ensures) _ (c .before .before .enum-told2 .given .1) in
     let h = w .1 .0 in
     (w .0, (omega arith, w .1 .1))
 
@@ -41,13 +43,15 @@ same-length-2 c = search needs
 
 returns-2 : tie.Need-returns-2
 returns-2 c =
-    let a = c .before .before .before .before .before .before .before .before .before .before .before .before .before .before .before .before .before .args in
-    let e = c .before .before .before .before .before .before .before .before .before .judged .ensures in
-    let z = c .before .before .before .before .before .before .before .enum-told2 .given .1 in
+    let b = c .before .before .before .before .before .before .before in
+    let a = b .before .before .before .before .before .before .before .before .before .before .args in
+    let e = b .before .before .judged .ensures in
+    let z = b .enum-told2 .given .1 in
     let w = c .before .before .before .before .fill-bytes .ensures in
     record {
       answer = e;
-      lines = lines-filled (a .q .how) (a .r .now) (a .s .now) (a .x .now) (a .tape .now) (a .q .«record») _ _ _ e _ z bytePlace lineOf (a .lines .now) _ (w .0);
+      lines = lines-filled (a .q .how) (a .r .now) (a .s .now) (a .x .now) (a .tape .now) (a .q .«record») _ _ _ e _ z bytePlace lineOf
+          (a .lines .now) _ (w .0);
       components = components-filled (a .q .how) (a .r .now) (a .s .now) (a .x .now) (a .tape .now) (a .q .«record») _ _ _ e _ z (a .components .now) _ (w .1);
     }
 

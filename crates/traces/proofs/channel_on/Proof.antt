@@ -24,7 +24,8 @@ returns-2 : tie.Need-returns-2
 unfolding wayBack
 returns-2 c =
     let a = c .before .before .before .before .before .before .before .before .before .args in
-    out-of-range (a .q .how) (a .r .now) (a .s .now) (a .x .now) (a .tape .now) (a .q .«record») _ _ _ (c .before .before .before .«record» .ensures) (not-false _ (c .before .before .if1 .left)) _
+    out-of-range (a .q .how) (a .r .now) (a .s .now) (a .x .now) (a .tape .now) (a .q .«record») _ _ _ (c .before .before .before .«record» .ensures)
+    (not-false _ (c .before .before .if1 .left)) _
     (c .before .receiver .ensures) (not-true _ (c .if2 .taken))
 
 check-on-requires : tie.Need-check-on-requires
@@ -35,9 +36,15 @@ enum-told c = search needs
 
 found-back-requires : tie.Need-found-back-requires
 found-back-requires c κs =
-    let a = c .before .before .before .before .before .before .before .before .before .before .before .before .args in
-    let ok = set-accepted (a .q .how) (a .r .now) (a .s .now) (a .x .now) _ (c .before .before .check-on .ensures) _ _ _ _ (c .enum-told .given .1) in
-    (in-set (a .q .how) (a .r .now) (a .s .now) (a .x .now) ok, (sym (c .before .before .before .before .before .before .«record» .ensures) ∙ not-false _ (c .before .before .before .before .before .if1 .left), line-asked _ _ _ (c .before .before .before .before .receiver .ensures) (not-false _ (c .before .before .before .if2 .left))))
+    let b = c .before .before .before in
+    let a = b .before .before .before .before .before .before .before .before .before .args in
+    let ok = set-accepted (a .q .how) (a .r .now) (a .s .now) (a .x .now) _ (c .before .before .check-on .ensures) _ _ _ _ (c .enum-told .given .1) in (
+      in-set (a .q .how) (a .r .now) (a .s .now) (a .x .now) ok,
+      (
+        sym (b .before .before .before .«record» .ensures) ∙ not-false _ (b .before .before .if1 .left),
+        line-asked _ _ _ (b .before .receiver .ensures) (not-false _ (b .if2 .left)),
+      ),
+    )
 
 enum-known-i : tie.Need-enum-known-i
 enum-known-i c = search needs
@@ -45,18 +52,22 @@ enum-known-i c = search needs
 returns-3 : tie.Need-returns-3
 unfolding wayBack
 returns-3 c =
-    let a = c .before .before .before .before .before .before .before .before .before .before .before .before .before .args in
+    let b = c .before .before .before .before in
+    let a = b .before .before .before .before .before .before .before .before .before .args in
     c .found-back .ensures
-    ∙ in-range (a .q .how) (a .r .now) (a .s .now) (a .x .now) (a .tape .now) (a .q .«record») _ _ _ (c .before .before .before .before .before .before .before .«record» .ensures) (not-false _ (c .before .before .before .before .before .before .if1 .left)) _
-    (c .before .before .before .before .before .receiver .ensures) (not-false _ (c .before .before .before .before .if2 .left))
+    ∙ in-range (a .q .how) (a .r .now) (a .s .now) (a .x .now) (a .tape .now) (a .q .«record») _ _ _ (b .before .before .before .«record» .ensures)
+    (not-false _ (b .before .before .if1 .left)) _
+    (b .before .receiver .ensures) (not-false _ (b .if2 .left))
     (set-accepted (a .q .how) (a .r .now) (a .s .now) (a .x .now) _ (c .before .before .before .check-on .ensures) _ _ _ _ (c .before .enum-told .given .1))
 
 returns-4 : tie.Need-returns-4
 unfolding wayBack
 returns-4 c =
-    let a = c .before .before .before .before .before .before .before .before .before .before .before .before .before .args in
-    own-refusal (a .q .how) (a .r .now) (a .s .now) (a .x .now) (a .tape .now) (a .q .«record») _ _ _ (c .before .before .before .before .before .before .before .«record» .ensures) (not-false _ (c .before .before .before .before .before .before .if1 .left)) _
-    (c .before .before .before .before .before .receiver .ensures) (not-false _ (c .before .before .before .before .if2 .left)) _
+    let b = c .before .before .before .before in
+    let a = b .before .before .before .before .before .before .before .before .before .args in
+    own-refusal (a .q .how) (a .r .now) (a .s .now) (a .x .now) (a .tape .now) (a .q .«record») _ _ _ (b .before .before .before .«record» .ensures)
+    (not-false _ (b .before .before .if1 .left)) _
+    (b .before .receiver .ensures) (not-false _ (b .if2 .left)) _
     (set-refused (a .q .how) (a .r .now) (a .s .now) (a .x .now) _ (c .before .before .before .check-on .ensures) _ _ _ _ (c .before .i .given .1))
 
 pub channel-on-spec : {M : Type 1} → statement M

@@ -15,19 +15,23 @@ line-count-requires c κs = search needs
 returns : tie.Need-returns
 returns c =
     let a = c .before .before .before .before .before .before .args in
-    none-carries (sheetOf (a .how) (a .r .now)) (sheetOf (a .how) (a .x .now)) (a .tape .now) (a .«record») (a .channel) _ (c .before .before .carrier .ensures) _ (c .before .line-count .ensures) (c .if1 .taken)
+    none-carries (sheetOf (a .how) (a .r .now)) (sheetOf (a .how) (a .x .now)) (a .tape .now) (a .«record») (a .channel) _
+    (c .before .before .carrier .ensures) _ (c .before .line-count .ensures) (c .if1 .taken)
 
 traced-requires : tie.Need-traced-requires
 traced-requires c κs =
-    let a = c .before .before .before .before .before .before .args in
-    let p = c .before .before .before .before .before .before .pre in
-    let w = carrier-is (sheetOf (a .how) (a .r .now)) (sheetOf (a .how) (a .x .now)) (a .tape .now) (a .«record») (a .channel) _ (c .before .before .carrier .ensures) _ (c .before .line-count .ensures) (c .if1 .left) in
+    let b = c .before .before .before .before .before .before in
+    let a = b .args in
+    let p = b .pre in
+    let w = carrier-is (sheetOf (a .how) (a .r .now)) (sheetOf (a .how) (a .x .now)) (a .tape .now) (a .«record») (a .channel) _
+    (c .before .before .carrier .ensures) _ (c .before .line-count .ensures) (c .if1 .left) in
     (p .0, (w .0, w .1))
 
 returns-2 : tie.Need-returns-2
 returns-2 c =
     let a = c .before .before .before .before .before .before .before .args in
-    c .traced .ensures ∙ one-carries (sheetOf (a .how) (a .r .now)) (sheetOf (a .how) (a .x .now)) (a .tape .now) (a .«record») (a .channel) _ (c .before .before .before .carrier .ensures) _ (c .before .before .line-count .ensures) (c .before .if1 .left)
+    c .traced .ensures ∙ one-carries (sheetOf (a .how) (a .r .now)) (sheetOf (a .how) (a .x .now)) (a .tape .now) (a .«record») (a .channel) _
+    (c .before .before .before .carrier .ensures) _ (c .before .before .line-count .ensures) (c .before .if1 .left)
 
 pub found-spec : {M : Type 1} → statement M
 found-spec =

@@ -25,48 +25,73 @@ takes-requires c κs = search needs
 
 returns-2 : tie.Need-returns-2
 returns-2 c =
-    let a = c .before .before .before .before .before .before .before .args in
-    let p = c .before .before .before .before .before .before .before .pre in
+    let b = c .before .before .before .before .before .before .before in
+    let a = b .args in
+    let p = b .pre in
     let n = c .before .before .before .line-count .ensures in
     let l = c .before .before .if1 .left in
-    no-point (sheetOf (a .how) (a .r .now)) (sheetOf (a .how) (a .x .now)) (a .tape .now) (a .«record») (a .r-line) (a .component) (p .1 .1) (omega arith) _ refl _ (c .before .takes .ensures) (not-true _ (c .if2 .taken))
+    no-point (sheetOf (a .how) (a .r .now)) (sheetOf (a .how) (a .x .now)) (a .tape .now) (a .«record») (a .r-line) (a .component) (p .1 .1)
+    (omega arith) _ refl _ (c .before .takes .ensures) (not-true _ (c .if2 .taken))
 
 reacher-requires : tie.Need-reacher-requires
 reacher-requires c κs =
-    let a = c .before .before .before .before .before .before .before .args in
-    let p = c .before .before .before .before .before .before .before .pre in
+    let b = c .before .before .before .before .before .before .before in
+    let a = b .args in
+    let p = b .pre in
     let n = c .before .before .before .line-count .ensures in
-    let l = c .before .before .if1 .left in
-    (receiver-line (sheetOf (a .how) (a .r .now)) (sheetOf (a .how) (a .x .now)) (a .tape .now) (a .«record») (a .r-line) (a .component) (p .1 .1) (omega arith) _ refl _ (c .before .takes .ensures) (not-false _ (c .if2 .left)) (p .0 .receivers), (p .0 .relations, p .1 .0))
+    let l = c .before .before .if1 .left in (
+      receiver-line (sheetOf (a .how) (a .r .now)) (sheetOf (a .how) (a .x .now)) (a .tape .now) (a .«record») (a .r-line) (a .component) (p .1 .1)
+          (omega arith) _ refl _ (c .before .takes .ensures) (not-false _ (c .if2 .left)) (p .0 .receivers),
+      (p .0 .relations, p .1 .0),
+    )
 
 line-count-requires-2 : tie.Need-line-count-requires-2
 line-count-requires-2 c κs = search needs
 
 returns-3 : tie.Need-returns-3
 returns-3 c =
-    let a = c .before .before .before .before .before .before .before .before .before .before .args in
-    let p = c .before .before .before .before .before .before .before .before .before .before .pre in
-    let n = c .before .before .before .before .before .before .line-count .ensures in
-    let l = c .before .before .before .before .before .if1 .left in
-    none-reaches (sheetOf (a .how) (a .r .now)) (sheetOf (a .how) (a .x .now)) (a .tape .now) (a .«record») (a .r-line) (a .component) (p .1 .1) (omega arith) _ refl _ (c .before .before .before .before .takes .ensures) (not-false _ (c .before .before .before .if2 .left)) _ (c .before .before .reacher .ensures) _ (c .before .line-count2 .ensures) (c .if3 .taken)
+    let b = c .before .before .before .before in
+    let d = b .before .before .before .before .before .before in
+    let a = d .args in
+    let p = d .pre in
+    let n = b .before .before .line-count .ensures in
+    let l = b .before .if1 .left in
+    none-reaches (sheetOf (a .how) (a .r .now)) (sheetOf (a .how) (a .x .now)) (a .tape .now) (a .«record») (a .r-line) (a .component) (p .1 .1)
+    (omega arith) _ refl _ (b .takes .ensures) (not-false _ (c .before .before .before .if2 .left)) _ (c .before .before .reacher .ensures) _
+    (c .before .line-count2 .ensures) (c .if3 .taken)
 
 returned-requires : tie.Need-returned-requires
 returned-requires c κs =
-    let a = c .before .before .before .before .before .before .before .before .before .before .args in
-    let p = c .before .before .before .before .before .before .before .before .before .before .pre in
-    let n = c .before .before .before .before .before .before .line-count .ensures in
-    let l = c .before .before .before .before .before .if1 .left in
-    let w = reacher-is (sheetOf (a .how) (a .r .now)) (sheetOf (a .how) (a .x .now)) (a .tape .now) (a .«record») (a .r-line) (a .component) (p .1 .1) (omega arith) _ refl _ (c .before .before .before .before .takes .ensures) (not-false _ (c .before .before .before .if2 .left)) _ (c .before .before .reacher .ensures) _ (c .before .line-count2 .ensures) (c .if3 .left) in
-    ((p .0, receiver-line (sheetOf (a .how) (a .r .now)) (sheetOf (a .how) (a .x .now)) (a .tape .now) (a .«record») (a .r-line) (a .component) (p .1 .1) (omega arith) _ refl _ (c .before .before .before .before .takes .ensures) (not-false _ (c .before .before .before .if2 .left)) (p .0 .receivers)), (w .0, w .1))
+    let b = c .before .before .before in
+    let d = b .before .before .before .before .before .before .before in
+    let a = d .args in
+    let R = sheetOf (a .how) (a .r .now) in
+    let X = sheetOf (a .how) (a .x .now) in
+    let p = d .pre in
+    let n = b .before .before .before .line-count .ensures in
+    let l = b .before .before .if1 .left in
+    let w = reacher-is R X (a .tape .now) (a .«record») (a .r-line) (a .component) (p .1 .1) (omega arith) _ refl _ (b .before .takes .ensures)
+    (not-false _ (b .if2 .left)) _ (c .before .before .reacher .ensures) _ (c .before .line-count2 .ensures) (c .if3 .left) in (
+      (
+        p .0,
+        receiver-line R X (a .tape .now) (a .«record») (a .r-line) (a .component) (p .1 .1) (omega arith) _ refl _ (b .before .takes .ensures)
+            (not-false _ (b .if2 .left)) (p .0 .receivers),
+      ),
+      (w .0, w .1),
+    )
 
 returns-4 : tie.Need-returns-4
 returns-4 c =
-    let a = c .before .before .before .before .before .before .before .before .before .before .before .args in
-    let p = c .before .before .before .before .before .before .before .before .before .before .before .pre in
-    let n = c .before .before .before .before .before .before .before .line-count .ensures in
-    let l = c .before .before .before .before .before .before .if1 .left in
+    let b = c .before .before .before .before in
+    let d = b .before .before .before .before .before .before .before in
+    let a = d .args in
+    let p = d .pre in
+    let n = b .before .before .before .line-count .ensures in
+    let l = b .before .before .if1 .left in
     c .returned .ensures
-    ∙ one-reaches (sheetOf (a .how) (a .r .now)) (sheetOf (a .how) (a .x .now)) (a .tape .now) (a .«record») (a .r-line) (a .component) (p .1 .1) (omega arith) _ refl _ (c .before .before .before .before .before .takes .ensures) (not-false _ (c .before .before .before .before .if2 .left)) _ (c .before .before .before .reacher .ensures) _ (c .before .before .line-count2 .ensures) (c .before .if3 .left)
+    ∙ one-reaches (sheetOf (a .how) (a .r .now)) (sheetOf (a .how) (a .x .now)) (a .tape .now) (a .«record») (a .r-line) (a .component) (p .1 .1)
+    (omega arith) _ refl _ (b .before .takes .ensures) (not-false _ (b .if2 .left)) _ (c .before .before .before .reacher .ensures) _
+    (c .before .before .line-count2 .ensures) (c .before .if3 .left)
 
 pub found-back-spec : {M : Type 1} → statement M
 found-back-spec =

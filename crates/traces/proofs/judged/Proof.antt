@@ -13,7 +13,8 @@ record-requires c κs = search needs
 returns : tie.Need-returns
 returns c =
     let a = c .before .before .before .before .before .before .before .args in
-    record-out (a .q .how) (a .r .now) (a .s .now) (a .x .now) (a .tape .now) (a .q .«record») (a .m) (a .n) (sym (c .before .«record» .ensures) ∙ not-true _ (c .if1 .taken))
+    record-out (a .q .how) (a .r .now) (a .s .now) (a .x .now) (a .tape .now) (a .q .«record») (a .m) (a .n)
+    (sym (c .before .«record» .ensures) ∙ not-true _ (c .if1 .taken))
 
 check-on-requires : tie.Need-check-on-requires
 check-on-requires c κs = search needs
@@ -23,33 +24,49 @@ enum-known-v c = search needs
 
 returns-2 : tie.Need-returns-2
 returns-2 c =
-    let a = c .before .before .before .before .before .before .before .before .before .before .before .args in
-    set-refuses (a .q .how) (a .r .now) (a .s .now) (a .x .now) (a .tape .now) (a .q .«record») (a .m) (a .n) (sym (c .before .before .before .before .before .«record» .ensures) ∙ not-false _ (c .before .before .before .before .if1 .left)) _ (set-refused (a .q .how) (a .r .now) (a .s .now) (a .x .now) _ (c .before .before .before .check-on .ensures) _ _ _ _ (c .before .v .given .1))
+    let b = c .before .before .before in
+    let a = b .before .before .before .before .before .before .before .before .args in
+    set-refuses (a .q .how) (a .r .now) (a .s .now) (a .x .now) (a .tape .now) (a .q .«record») (a .m) (a .n)
+    (sym (b .before .before .«record» .ensures) ∙ not-false _ (b .before .if1 .left)) _
+    (set-refused (a .q .how) (a .r .now) (a .s .now) (a .x .now) _ (b .check-on .ensures) _ _ _ _ (c .before .v .given .1))
 
 enum-told : tie.Need-enum-told
 enum-told c = search needs
 
 highest-requires : tie.Need-highest-requires
 highest-requires c κs =
-    let a = c .before .before .before .before .before .before .before .before .before .before .args in
-    (in-set (a .q .how) (a .r .now) (a .s .now) (a .x .now) (set-accepted (a .q .how) (a .r .now) (a .s .now) (a .x .now) _ (c .before .before .check-on .ensures) _ _ _ _ (c .enum-told .given .1)) .relations, (sym (c .before .before .before .before .«record» .ensures) ∙ not-false _ (c .before .before .before .if1 .left)))
+    let b = c .before .before in
+    let a = b .before .before .before .before .before .before .before .before .args in (
+      in-set (a .q .how) (a .r .now) (a .s .now) (a .x .now) (set-accepted (a .q .how) (a .r .now) (a .s .now) (a .x .now) _ (b .check-on .ensures) _ _
+          _ _ (c .enum-told .given .1)) .relations,
+      (sym (b .before .before .«record» .ensures) ∙ not-false _ (b .before .if1 .left)),
+    )
 
 returns-3 : tie.Need-returns-3
 returns-3 c =
-    let a = c .before .before .before .before .before .before .before .before .before .before .before .before .args in
-    too-short (a .q .how) (a .r .now) (a .s .now) (a .x .now) (a .tape .now) (a .q .«record») (a .m) (a .n) (sym (c .before .before .before .before .before .before .«record» .ensures) ∙ not-false _ (c .before .before .before .before .before .if1 .left)) (set-accepted (a .q .how) (a .r .now) (a .s .now) (a .x .now) _ (c .before .before .before .before .check-on .ensures) _ _ _ _ (c .before .before .enum-told .given .1)) _
+    let b = c .before .before .before .before in
+    let a = b .before .before .before .before .before .before .before .before .args in
+    too-short (a .q .how) (a .r .now) (a .s .now) (a .x .now) (a .tape .now) (a .q .«record») (a .m) (a .n)
+    (sym (b .before .before .«record» .ensures) ∙ not-false _ (b .before .if1 .left))
+    (set-accepted (a .q .how) (a .r .now) (a .s .now) (a .x .now) _ (b .check-on .ensures) _ _ _ _ (c .before .before .enum-told .given .1)) _
     (c .before .highest .ensures) (first-short _ _ _ (c .if2 .taken))
 
 returns-4 : tie.Need-returns-4
 returns-4 c =
-    let a = c .before .before .before .before .before .before .before .before .before .before .before .before .before .args in
-    too-short (a .q .how) (a .r .now) (a .s .now) (a .x .now) (a .tape .now) (a .q .«record») (a .m) (a .n) (sym (c .before .before .before .before .before .before .before .«record» .ensures) ∙ not-false _ (c .before .before .before .before .before .before .if1 .left)) (set-accepted (a .q .how) (a .r .now) (a .s .now) (a .x .now) _ (c .before .before .before .before .before .check-on .ensures) _ _ _ _ (c .before .before .before .enum-told .given .1)) _
+    let b = c .before .before .before .before .before in
+    let a = b .before .before .before .before .before .before .before .before .args in
+    too-short (a .q .how) (a .r .now) (a .s .now) (a .x .now) (a .tape .now) (a .q .«record») (a .m) (a .n)
+    (sym (b .before .before .«record» .ensures) ∙ not-false _ (b .before .if1 .left))
+    (set-accepted (a .q .how) (a .r .now) (a .s .now) (a .x .now) _ (b .check-on .ensures) _ _ _ _ (c .before .before .before .enum-told .given .1)) _
     (c .before .before .highest .ensures) (second-short _ _ _ (c .before .if2 .left) (c .if3 .taken))
 
 returns-5 : tie.Need-returns-5
 returns-5 c =
-    let a = c .before .before .before .before .before .before .before .before .before .before .before .before .before .args in
-    says-highest (a .q .how) (a .r .now) (a .s .now) (a .x .now) (a .tape .now) (a .q .«record») (a .m) (a .n) (sym (c .before .before .before .before .before .before .before .«record» .ensures) ∙ not-false _ (c .before .before .before .before .before .before .if1 .left)) (set-accepted (a .q .how) (a .r .now) (a .s .now) (a .x .now) _ (c .before .before .before .before .before .check-on .ensures) _ _ _ _ (c .before .before .before .enum-told .given .1)) _
+    let b = c .before .before .before .before .before in
+    let a = b .before .before .before .before .before .before .before .before .args in
+    says-highest (a .q .how) (a .r .now) (a .s .now) (a .x .now) (a .tape .now) (a .q .«record») (a .m) (a .n)
+    (sym (b .before .before .«record» .ensures) ∙ not-false _ (b .before .if1 .left))
+    (set-accepted (a .q .how) (a .r .now) (a .s .now) (a .x .now) _ (b .check-on .ensures) _ _ _ _ (c .before .before .before .enum-told .given .1)) _
     (c .before .before .highest .ensures) (c .before .if2 .left) (c .if3 .left)
 
 pub judged-spec : {M : Type 1} → statement M

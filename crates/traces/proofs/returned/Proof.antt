@@ -28,29 +28,38 @@ cast-channel-of c = search needs
 
 channel-of-requires : tie.Need-channel-of-requires
 channel-of-requires c κs =
-    let a = c .before .before .before .before .before .before .before .before .args in
-    let p = c .before .before .before .before .before .before .before .before .pre in
-    let en = number-read (a .how) (a .r .now) (a .i) _ _ (c .before .before .before .before .before .line-of .ensures) (c .before .before .before .number-at .ensures) in
+    let b = c .before .before .before .before .before in
+    let a = b .before .before .before .args in
+    let p = b .before .before .before .pre in
+    let en = number-read (a .how) (a .r .now) (a .i) _ _ (b .line-of .ensures) (c .before .before .before .number-at .ensures) in
     let e = reads (a .how) (a .x .now) (a .k) _ _ (c .before .before .line-of2 .ensures) (c .reach-of .ensures) in
     may-return (sheetOf (a .how) (a .r .now)) (sheetOf (a .how) (a .x .now)) (p .0 .0) (a .i) (a .k) (a .component) (p .0 .1) (p .1 .0) (p .1 .1) _ e _ en
 
 cast-t16 : tie.Need-cast-t16
 cast-t16 c =
-    let a = c .before .before .before .before .before .before .before .before .before .args in
-    let p = c .before .before .before .before .before .before .before .before .before .pre in
-    let en = number-read (a .how) (a .r .now) (a .i) _ _ (c .before .before .before .before .before .before .line-of .ensures) (c .before .before .before .before .number-at .ensures) in
-    let e = reads (a .how) (a .x .now) (a .k) _ _ (c .before .before .before .line-of2 .ensures) (c .before .reach-of .ensures) in
-    let s = channel-small (sheetOf (a .how) (a .r .now)) (sheetOf (a .how) (a .x .now)) (p .0 .0) (a .i) (a .k) (a .component) (p .0 .1) (p .1 .0) (p .1 .1) _ e _ en in
-    let z = channel-is (sheetOf (a .how) (a .r .now)) (sheetOf (a .how) (a .x .now)) (p .0 .0) (a .i) (a .k) (a .component) (p .0 .1) (p .1 .0) (p .1 .1) _ e _ en _ (c .channel-of .ensures (reachAt (sheetOf (a .how) (a .x .now)) (a .k)) e) in
+    let b = c .before .before .before in
+    let d = b .before .before .before in
+    let a = d .before .before .before .args in
+    let R = sheetOf (a .how) (a .r .now) in
+    let X = sheetOf (a .how) (a .x .now) in
+    let p = d .before .before .before .pre in
+    let en = number-read (a .how) (a .r .now) (a .i) _ _ (d .line-of .ensures) (b .before .number-at .ensures) in
+    let e = reads (a .how) (a .x .now) (a .k) _ _ (b .line-of2 .ensures) (c .before .reach-of .ensures) in
+    let s = channel-small R X (p .0 .0) (a .i) (a .k) (a .component) (p .0 .1) (p .1 .0) (p .1 .1) _ e _ en in
+    let z = channel-is R X (p .0 .0) (a .i) (a .k) (a .component) (p .0 .1) (p .1 .0) (p .1 .1) _ e _ en _ (c .channel-of .ensures (reachAt X (a .k)) e) in
     omega arith
 
 returns : tie.Need-returns
 returns c =
-    let a = c .before .before .before .before .before .before .before .before .before .args in
-    let p = c .before .before .before .before .before .before .before .before .before .pre in
-    let en = number-read (a .how) (a .r .now) (a .i) _ _ (c .before .before .before .before .before .before .line-of .ensures) (c .before .before .before .before .number-at .ensures) in
-    let e = reads (a .how) (a .x .now) (a .k) _ _ (c .before .before .before .line-of2 .ensures) (c .before .reach-of .ensures) in
-    ap (λ (i : ℕ). channel i) (channel-is (sheetOf (a .how) (a .r .now)) (sheetOf (a .how) (a .x .now)) (p .0 .0) (a .i) (a .k) (a .component) (p .0 .1) (p .1 .0) (p .1 .1) _ e _ en _ (c .channel-of .ensures (reachAt (sheetOf (a .how) (a .x .now)) (a .k)) e))
+    let b = c .before .before .before in
+    let d = b .before .before .before in
+    let a = d .before .before .before .args in
+    let X = sheetOf (a .how) (a .x .now) in
+    let p = d .before .before .before .pre in
+    let en = number-read (a .how) (a .r .now) (a .i) _ _ (d .line-of .ensures) (b .before .number-at .ensures) in
+    let e = reads (a .how) (a .x .now) (a .k) _ _ (b .line-of2 .ensures) (c .before .reach-of .ensures) in
+    ap (λ (i : ℕ). channel i) (channel-is (sheetOf (a .how) (a .r .now)) X (p .0 .0) (a .i) (a .k) (a .component) (p .0 .1) (p .1 .0) (p .1 .1) _ e _
+    en _ (c .channel-of .ensures (reachAt X (a .k)) e))
 
 pub returned-spec : {M : Type 1} → statement M
 returned-spec =

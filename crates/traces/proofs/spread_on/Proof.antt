@@ -19,7 +19,8 @@ returns c =
     record {
       answer = e;
       lines = leaves (a .q .how) (a .r .now) (a .s .now) (a .x .now) (a .tape .now) (a .q .«record») _ _ _ e _ _ _ _ z place lineOf (a .lines .now);
-      components = leaves (a .q .how) (a .r .now) (a .s .now) (a .x .now) (a .tape .now) (a .q .«record») _ _ _ e _ _ _ _ z place componentOf (a .components .now);
+      components = leaves (a .q .how) (a .r .now) (a .s .now) (a .x .now) (a .tape .now) (a .q .«record») _ _ _ e _ _ _ _ z place componentOf
+          (a .components .now);
     }
 
 enum-told-2 : tie.Need-enum-told-2
@@ -28,7 +29,8 @@ enum-told-2 c = search needs
 fill-requires : tie.Need-fill-requires
 fill-requires c κs =
     let a = c .before .before .before .before .before .before .before .before .before .before .before .before .args in
-    may-fill (a .q .how) (a .r .now) (a .s .now) (a .x .now) (a .tape .now) (a .q .«record») _ _ _ (c .before .before .before .before .judged .ensures) _ (c .before .before .enum-told2 .given .1)
+    may-fill (a .q .how) (a .r .now) (a .s .now) (a .x .now) (a .tape .now) (a .q .«record») _ _ _
+    (c .before .before .before .before .judged .ensures) _ (c .before .before .enum-told2 .given .1)
 
 same-length : tie.Need-same-length
 same-length c = search needs

@@ -23,7 +23,8 @@ returns-2 : tie.Need-returns-2
 unfolding lookup
 returns-2 c =
     let a = c .before .before .before .before .before .before .before .before .before .args in
-    out-of-range (a .q .how) (a .r .now) (a .s .now) (a .x .now) (a .tape .now) (a .q .«record») _ _ _ (c .before .before .before .«record» .ensures) (not-false _ (c .before .before .if1 .left)) _
+    out-of-range (a .q .how) (a .r .now) (a .s .now) (a .x .now) (a .tape .now) (a .q .«record») _ _ _ (c .before .before .before .«record» .ensures)
+    (not-false _ (c .before .before .if1 .left)) _
     (channel-on (a .q .how) (a .x .now) (a .channel) _ (c .before .channel .ensures)) (not-true _ (c .if2 .taken))
 
 check-on-requires : tie.Need-check-on-requires
@@ -34,9 +35,10 @@ enum-told c = search needs
 
 found-requires : tie.Need-found-requires
 found-requires c κs =
-    let a = c .before .before .before .before .before .before .before .before .before .before .before .before .args in
+    let b = c .before .before .before .before .before in
+    let a = b .before .before .before .before .before .before .before .args in
     let ok = set-accepted (a .q .how) (a .r .now) (a .s .now) (a .x .now) _ (c .before .before .check-on .ensures) _ _ _ _ (c .enum-told .given .1) in
-    (in-set (a .q .how) (a .r .now) (a .s .now) (a .x .now) ok, sym (c .before .before .before .before .before .before .«record» .ensures) ∙ not-false _ (c .before .before .before .before .before .if1 .left))
+    (in-set (a .q .how) (a .r .now) (a .s .now) (a .x .now) ok, sym (b .before .«record» .ensures) ∙ not-false _ (b .if1 .left))
 
 enum-known-i : tie.Need-enum-known-i
 enum-known-i c = search needs
@@ -44,18 +46,22 @@ enum-known-i c = search needs
 returns-3 : tie.Need-returns-3
 unfolding lookup
 returns-3 c =
-    let a = c .before .before .before .before .before .before .before .before .before .before .before .before .before .args in
+    let b = c .before .before .before .before in
+    let a = b .before .before .before .before .before .before .before .before .before .args in
     c .found .ensures
-    ∙ in-range (a .q .how) (a .r .now) (a .s .now) (a .x .now) (a .tape .now) (a .q .«record») _ _ _ (c .before .before .before .before .before .before .before .«record» .ensures) (not-false _ (c .before .before .before .before .before .before .if1 .left)) _
-    (channel-on (a .q .how) (a .x .now) (a .channel) _ (c .before .before .before .before .before .channel .ensures)) (not-false _ (c .before .before .before .before .if2 .left))
+    ∙ in-range (a .q .how) (a .r .now) (a .s .now) (a .x .now) (a .tape .now) (a .q .«record») _ _ _ (b .before .before .before .«record» .ensures)
+    (not-false _ (b .before .before .if1 .left)) _
+    (channel-on (a .q .how) (a .x .now) (a .channel) _ (b .before .channel .ensures)) (not-false _ (b .if2 .left))
     (set-accepted (a .q .how) (a .r .now) (a .s .now) (a .x .now) _ (c .before .before .before .check-on .ensures) _ _ _ _ (c .before .enum-told .given .1))
 
 returns-4 : tie.Need-returns-4
 unfolding lookup
 returns-4 c =
-    let a = c .before .before .before .before .before .before .before .before .before .before .before .before .before .args in
-    own-refusal (a .q .how) (a .r .now) (a .s .now) (a .x .now) (a .tape .now) (a .q .«record») _ _ _ (c .before .before .before .before .before .before .before .«record» .ensures) (not-false _ (c .before .before .before .before .before .before .if1 .left)) _
-    (channel-on (a .q .how) (a .x .now) (a .channel) _ (c .before .before .before .before .before .channel .ensures)) (not-false _ (c .before .before .before .before .if2 .left)) _
+    let b = c .before .before .before .before in
+    let a = b .before .before .before .before .before .before .before .before .before .args in
+    own-refusal (a .q .how) (a .r .now) (a .s .now) (a .x .now) (a .tape .now) (a .q .«record») _ _ _ (b .before .before .before .«record» .ensures)
+    (not-false _ (b .before .before .if1 .left)) _
+    (channel-on (a .q .how) (a .x .now) (a .channel) _ (b .before .channel .ensures)) (not-false _ (b .if2 .left)) _
     (set-refused (a .q .how) (a .r .now) (a .s .now) (a .x .now) _ (c .before .before .before .check-on .ensures) _ _ _ _ (c .before .i .given .1))
 
 pub trace-on-spec : {M : Type 1} → statement M

@@ -37,19 +37,23 @@ receiver-line-requires c κs =
 
 cast-t12 : tie.Need-cast-t12
 cast-t12 c =
-    let a = c .before .before .before .before .before .before .before .args in
-    let p = c .before .before .before .before .before .before .before .pre in
-    let e = reads (a .how) (a .x .now) (a .k) _ _ (c .before .before .before .before .line-of .ensures) (c .before .before .reach-of .ensures) in
-    let s = line-small (sheetOf (a .how) (a .r .now)) (sheetOf (a .how) (a .x .now)) (p .0) (a .k) (a .channel) (p .1 .0) (p .1 .1) _ e (c .before .leads .result) in
+    let b = c .before .before .before .before in
+    let a = b .before .before .before .args in
+    let p = b .before .before .before .pre in
+    let e = reads (a .how) (a .x .now) (a .k) _ _ (b .line-of .ensures) (c .before .before .reach-of .ensures) in
+    let s = line-small (sheetOf (a .how) (a .r .now)) (sheetOf (a .how) (a .x .now)) (p .0) (a .k) (a .channel) (p .1 .0) (p .1 .1) _ e
+    (c .before .leads .result) in
     let z = c .receiver-line .ensures in
     omega arith
 
 add-t13 : tie.Need-add-t13
 add-t13 c =
-    let a = c .before .before .before .before .before .before .before .args in
-    let p = c .before .before .before .before .before .before .before .pre in
-    let e = reads (a .how) (a .x .now) (a .k) _ _ (c .before .before .before .before .line-of .ensures) (c .before .before .reach-of .ensures) in
-    let s = line-small (sheetOf (a .how) (a .r .now)) (sheetOf (a .how) (a .x .now)) (p .0) (a .k) (a .channel) (p .1 .0) (p .1 .1) _ e (c .before .leads .result) in
+    let b = c .before .before .before .before in
+    let a = b .before .before .before .args in
+    let p = b .before .before .before .pre in
+    let e = reads (a .how) (a .x .now) (a .k) _ _ (b .line-of .ensures) (c .before .before .reach-of .ensures) in
+    let s = line-small (sheetOf (a .how) (a .r .now)) (sheetOf (a .how) (a .x .now)) (p .0) (a .k) (a .channel) (p .1 .0) (p .1 .1) _ e
+    (c .before .leads .result) in
     let z = c .receiver-line .ensures in
     omega arith
 
@@ -62,19 +66,24 @@ component-requires c κs =
 
 cast-t14 : tie.Need-cast-t14
 cast-t14 c =
-    let a = c .before .before .before .before .before .before .before .before .args in
-    let p = c .before .before .before .before .before .before .before .before .pre in
-    let e = reads (a .how) (a .x .now) (a .k) _ _ (c .before .before .before .before .before .line-of .ensures) (c .before .before .before .reach-of .ensures) in
-    let s = component-small (sheetOf (a .how) (a .r .now)) (sheetOf (a .how) (a .x .now)) (p .0) (a .k) (a .channel) (p .1 .0) (p .1 .1) _ e in
-    let z = c .component .ensures (reachAt (sheetOf (a .how) (a .x .now)) (a .k)) e in
+    let b = c .before .before .before .before .before in
+    let a = b .before .before .before .args in
+    let X = sheetOf (a .how) (a .x .now) in
+    let p = b .before .before .before .pre in
+    let e = reads (a .how) (a .x .now) (a .k) _ _ (b .line-of .ensures) (c .before .before .before .reach-of .ensures) in
+    let s = component-small (sheetOf (a .how) (a .r .now)) X (p .0) (a .k) (a .channel) (p .1 .0) (p .1 .1) _ e in
+    let z = c .component .ensures (reachAt X (a .k)) e in
     omega arith
 
 returns : tie.Need-returns
 returns c =
-    let a = c .before .before .before .before .before .before .before .before .args in
-    let p = c .before .before .before .before .before .before .before .before .pre in
-    let e = reads (a .how) (a .x .now) (a .k) _ _ (c .before .before .before .before .before .line-of .ensures) (c .before .before .before .reach-of .ensures) in
-    leads-there (sheetOf (a .how) (a .r .now)) (sheetOf (a .how) (a .x .now)) (p .0) (a .k) (a .channel) (p .1 .0) (p .1 .1) _ e _ _ _ (c .before .before .leads .ensures (reachAt (sheetOf (a .how) (a .x .now)) (a .k)) e) (c .component .ensures (reachAt (sheetOf (a .how) (a .x .now)) (a .k)) e) (c .before .receiver-line .ensures)
+    let b = c .before .before .before .before .before in
+    let a = b .before .before .before .args in
+    let X = sheetOf (a .how) (a .x .now) in
+    let p = b .before .before .before .pre in
+    let e = reads (a .how) (a .x .now) (a .k) _ _ (b .line-of .ensures) (c .before .before .before .reach-of .ensures) in
+    leads-there (sheetOf (a .how) (a .r .now)) X (p .0) (a .k) (a .channel) (p .1 .0) (p .1 .1) _ e _ _ _
+    (c .before .before .leads .ensures (reachAt X (a .k)) e) (c .component .ensures (reachAt X (a .k)) e) (c .before .receiver-line .ensures)
 
 pub traced-spec : {M : Type 1} → statement M
 traced-spec =

@@ -30,7 +30,14 @@ byte-requires c κs = search needs
 
 returns : tie.Need-returns
 unfolding row bytes
-returns c = (then (c .before .before .before .before .before .before .before .before .before .before .add .ensures) (then (c .before .before .before .before .before .before .before .before .number .ensures .0) (then (c .before .before .before .before .before .before .number2 .ensures .0) (then (c .before .before .before .before .number3 .ensures .0) (then (c .before .before .number4 .ensures .0) (c .byte .ensures))))), omega (arith, c .before .before .before .before .before .before .before .before .before .before .add .ensures .ends, c .byte .ensures .ends))
+returns c =
+    let b = c .before .before .before .before .before .before in (
+      then (b .before .before .before .before .add .ensures)
+          (then (b .before .before .number .ensures .0)
+          (then (b .number2 .ensures .0) (then (c .before .before .before .before .number3 .ensures .0)
+          (then (c .before .before .number4 .ensures .0) (c .byte .ensures))))),
+      omega (arith, b .before .before .before .before .add .ensures .ends, c .byte .ensures .ends),
+    )
 
 pub accepted-spec : {M : Type 1} → statement M
 accepted-spec =

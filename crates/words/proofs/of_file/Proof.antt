@@ -40,8 +40,9 @@ same-length c = search needs
 
 returns : tie.Need-returns
 returns c =
-    let e = starts (then (c .before .before .before .before .before .before .before .before .before .before .before .add .ensures) (c .before .before .before .before .before .before .add2 .ensures)) in
-    rw (← c .before .before .before .before .before .before .before .before .before .letter .ensures) (e .1, c .before .before .place .ensures ∙ rw (e .0))
+    let b = c .before .before .before .before .before .before in
+    let e = starts (then (b .before .before .before .before .before .add .ensures) (b .add2 .ensures)) in
+    rw (← b .before .before .before .letter .ensures) (e .1, c .before .before .place .ensures ∙ rw (e .0))
 
 pub of-file-spec : {M : Type 1} → statement M
 of-file-spec =

@@ -19,8 +19,9 @@ same-length c = search needs
 
 returns-2 : tie.Need-returns-2
 returns-2 c =
-    let a = c .before .before .before .before .before .before .before .args in
-    over-is (a .out .now) (a .p .now) (c .before .before .add .last .1 .0) (c .before .before .add .result) (c .before .before .before .before .if1 .left) (c .before .before .add .ensures)
+    let b = c .before .before in
+    let a = b .before .before .before .before .before .args in
+    over-is (a .out .now) (a .p .now) (b .add .last .1 .0) (b .add .result) (b .before .before .if1 .left) (b .add .ensures)
 
 pub place-spec : {M : Type 1} → statement M
 place-spec = tie.close (tie.spec returns add-requires same-length returns-2)

@@ -36,7 +36,15 @@ byte-requires c κs = search needs
 
 returns : tie.Need-returns
 unfolding row bytes
-returns c = (rw (← c .before .before .before .before .before .before .before .before .before .letter .ensures) (then (c .before .before .before .before .before .before .before .before .before .before .before .before .add .ensures) (then (c .before .before .before .before .before .before .before .before .before .before .number .ensures .0) (then (c .before .before .before .before .before .before .add2 .ensures) (then (c .before .before .before .before .number2 .ensures .0) (then (c .before .before .number3 .ensures .0) (c .byte .ensures)))))), omega (arith, c .before .before .before .before .before .before .before .before .before .before .before .before .add .ensures .ends, c .before .before .before .before .before .before .add2 .ensures .ends, c .byte .ensures .ends))
+returns c =
+    let b = c .before .before .before .before .before .before in
+    let d = b .before .before .before in (
+      rw (← d .letter .ensures) (then (d .before .before .before .add .ensures)
+          (then (d .before .number .ensures .0)
+          (then (b .add2 .ensures) (then (c .before .before .before .before .number2 .ensures .0)
+          (then (c .before .before .number3 .ensures .0) (c .byte .ensures)))))),
+      omega (arith, d .before .before .before .add .ensures .ends, b .add2 .ensures .ends, c .byte .ensures .ends),
+    )
 
 pub refused-spec : {M : Type 1} → statement M
 refused-spec =

@@ -30,7 +30,8 @@ returns-2 : tie.Need-returns-2
 unfolding fits
 returns-2 c =
     let b = c .before .before in
-    code-killed _ _ (b .before .before .before .before .pre .0) _ (sym (b .before .two .ensures) ∙ b .if1 .left) (sym (c .before .two2 .ensures) ∙ c .if2 .taken)
+    code-killed _ _ (b .before .before .before .before .pre .0) _ (sym (b .before .two .ensures) ∙ b .if1 .left)
+    (sym (c .before .two2 .ensures) ∙ c .if2 .taken)
 
 family-requires : tie.Need-family-requires
 family-requires c κs = search needs

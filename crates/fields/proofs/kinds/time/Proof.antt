@@ -18,7 +18,9 @@ between-requires c κs = search needs
 
 returns : tie.Need-returns
 unfolding fits
-returns c = time-hours _ _ (c .before .before .before .pre .0) (sym (c .before .between .ensures ∙ ap (between 0 23) (c .before .before .digits .ensures)) ∙ not-true _ (c .if1 .taken))
+returns c =
+    time-hours _ _ (c .before .before .before .pre .0) (sym (c .before .between .ensures ∙ ap (between 0 23) (c .before .before .digits .ensures))
+    ∙ not-true _ (c .if1 .taken))
 
 add-digits-2 : tie.Need-add-digits-2
 add-digits-2 c = search needs
@@ -36,7 +38,8 @@ returns-2 : tie.Need-returns-2
 unfolding fits
 returns-2 c =
     let b = c .before .before .before in
-    time-minutes _ _ (b .before .before .before .pre .0) (sym (b .before .between .ensures ∙ ap (between 0 23) (b .before .before .digits .ensures)) ∙ not-false _ (b .if1 .left))
+    time-minutes _ _ (b .before .before .before .pre .0) (sym (b .before .between .ensures ∙ ap (between 0 23) (b .before .before .digits .ensures))
+    ∙ not-false _ (b .if1 .left))
     (sym (c .before .between2 .ensures ∙ ap (between 0 59) (c .before .before .digits2 .ensures)) ∙ not-true _ (c .if2 .taken))
 
 add-digits-4 : tie.Need-add-digits-4
@@ -57,7 +60,8 @@ returns-3 c =
     let d = c .before .before in
     let b = d .before .before .before in
     c .between3 .ensures ∙ ap (between 0 59) (c .before .digits3 .ensures)
-    ∙ time-seconds _ _ (b .before .before .before .pre .0) (sym (b .before .between .ensures ∙ ap (between 0 23) (b .before .before .digits .ensures)) ∙ not-false _ (b .if1 .left))
+    ∙ time-seconds _ _ (b .before .before .before .pre .0) (sym (b .before .between .ensures ∙ ap (between 0 23) (b .before .before .digits .ensures))
+    ∙ not-false _ (b .if1 .left))
     (sym (d .before .between2 .ensures ∙ ap (between 0 59) (d .before .before .digits2 .ensures)) ∙ not-false _ (d .if2 .left))
 
 pub time-spec : {M : Type 1} → statement M

@@ -25,7 +25,9 @@ tenths-requires c κs =
     (omega arith, (omega arith, rw (c .whole .ensures) (few _ _ (a .a) (a .b - 2) (omega arith) (omega arith) (whole-small _))))
 
 returns-2 : tie.Need-returns-2
-returns-2 c = c .tenths .ensures ∙ ap (tenthsOf _ _) (c .before .whole .ensures) ∙ decimal-long whole _ _ _ (c .before .before .before .pre .0) (c .before .before .if1 .left)
+returns-2 c =
+    c .tenths .ensures ∙ ap (tenthsOf _ _) (c .before .whole .ensures) ∙ decimal-long whole _ _ _ (c .before .before .before .pre .0)
+    (c .before .before .if1 .left)
 
 pub decimal-spec : {M : Type 1} → statement M
 decimal-spec = tie.close (tie.spec returns sub-whole whole-requires tenths-requires returns-2)

@@ -11,7 +11,9 @@ ink-requires : tie.Need-ink-requires
 ink-requires c κs = search needs
 
 returns : tie.Need-returns
-returns c = signed-after _ _ _ _ (c .before .ink .ensures) _ (c .before .before .pre .0) (minus-none _ _ _ (let h = ink-low _ _ _ _ (c .before .ink .ensures) in omega arith) (c .if1 .taken))
+returns c =
+    signed-after _ _ _ _ (c .before .ink .ensures) _ (c .before .before .pre .0)
+    (minus-none _ _ _ (let h = ink-low _ _ _ _ (c .before .ink .ensures) in omega arith) (c .if1 .taken))
 
 sub-if2 : tie.Need-sub-if2
 sub-if2 c = let h = ink-low _ _ _ _ (c .before .ink .ensures) in omega arith
@@ -35,7 +37,8 @@ returns-2 c =
     let b = c .before .before .before .before .before in
     signed-after _ _ _ _ (b .ink .ensures) _ (b .before .pre .0)
     (c .negative .ensures ∙ ap negative (c .before .digits .ensures)
-    ∙ minus-some _ _ _ (let h = ink-low _ _ _ _ (b .ink .ensures) in omega arith) (c .before .before .before .before .if1 .left) (c .before .before .if2 .taken))
+    ∙ minus-some _ _ _ (let h = ink-low _ _ _ _ (b .ink .ensures) in omega arith) (c .before .before .before .before .if1 .left)
+    (c .before .before .if2 .taken))
 
 digits-requires-2 : tie.Need-digits-requires-2
 digits-requires-2 c κs =

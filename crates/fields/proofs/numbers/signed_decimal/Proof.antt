@@ -25,7 +25,9 @@ tenths-requires c κs =
     (omega arith, (omega arith, rw (c .signed .ensures) (few _ _ (a .a) (a .b - 2) (omega arith) (omega arith) (signed-small _))))
 
 returns-2 : tie.Need-returns-2
-returns-2 c = c .tenths .ensures ∙ ap (tenthsOf _ _) (c .before .signed .ensures) ∙ decimal-long signed _ _ _ (c .before .before .before .pre .0) (c .before .before .if1 .left)
+returns-2 c =
+    c .tenths .ensures ∙ ap (tenthsOf _ _) (c .before .signed .ensures) ∙ decimal-long signed _ _ _ (c .before .before .before .pre .0)
+    (c .before .before .if1 .left)
 
 pub signed-decimal-spec : {M : Type 1} → statement M
 signed-decimal-spec =

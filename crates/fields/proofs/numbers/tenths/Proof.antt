@@ -21,7 +21,8 @@ element-copy-out-then : tie.Need-element-copy-out-then
 element-copy-out-then c = search needs
 
 sub-then-2 : tie.Need-sub-then-2
-sub-then-2 c = tenths-digit _ _ (number (c .before .before .before .args .n)) _ (c .before .before .point-digit .ensures) (not-false _ (c .before .if1 .left)) .0
+sub-then-2 c =
+    tenths-digit _ _ (number (c .before .before .before .args .n)) _ (c .before .before .point-digit .ensures) (not-false _ (c .before .if1 .left)) .0
 
 then-requires : tie.Need-then-requires
 then-requires c κs =

@@ -53,11 +53,15 @@ returns c = sym (ap (λ (n : Number). then (number n) (c .before .before .args .
 
 returns-2 : tie.Need-returns-2
 unfolding then
-returns-2 c = ap (λ (d : ℕ). plus (10 * c .before .before .n .given .0 .0 + d)) (c .wide .ensures) ∙ sym (ap (λ (n : Number). then (number n) (c .before .before .before .before .args .d)) (c .before .before .n .given .1))
+returns-2 c =
+    ap (λ (d : ℕ). plus (10 * c .before .before .n .given .0 .0 + d)) (c .wide .ensures)
+    ∙ sym (ap (λ (n : Number). then (number n) (c .before .before .before .before .args .d)) (c .before .before .n .given .1))
 
 returns-3 : tie.Need-returns-3
 unfolding then
-returns-3 c = ap (λ (d : ℕ). minus (10 * c .before .before .n2 .given .0 .0 + d)) (c .wide2 .ensures) ∙ sym (ap (λ (n : Number). then (number n) (c .before .before .before .before .args .d)) (c .before .before .n2 .given .1))
+returns-3 c =
+    ap (λ (d : ℕ). minus (10 * c .before .before .n2 .given .0 .0 + d)) (c .wide2 .ensures)
+    ∙ sym (ap (λ (n : Number). then (number n) (c .before .before .before .before .args .d)) (c .before .before .n2 .given .1))
 
 pub then-spec : {M : Type 1} → statement M
 then-spec =

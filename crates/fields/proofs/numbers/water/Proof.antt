@@ -17,7 +17,9 @@ between-requires : tie.Need-between-requires
 between-requires c κs = search needs
 
 returns : tie.Need-returns
-returns c = c .before .before .decimal .ensures ∙ water-tenths _ (sym (c .before .between .ensures ∙ ap (between 0 999) (c .before .before .decimal .ensures)) ∙ c .if1 .taken)
+returns c =
+    c .before .before .decimal .ensures ∙ water-tenths _ (sym (c .before .between .ensures ∙ ap (between 0 999) (c .before .before .decimal .ensures))
+    ∙ c .if1 .taken)
 
 whole-requires : tie.Need-whole-requires
 whole-requires c κs = search needs
@@ -32,14 +34,17 @@ then-requires c κs =
 
 returns-2 : tie.Need-returns-2
 returns-2 c =
-    let b = c .before .before .before .before in
-    c .then .ensures ∙ ap (λ (n : Number). then n 0) (c .before .before .before .whole .ensures)
-    ∙ water-metres _ (sym (b .before .between .ensures ∙ ap (between 0 999) (b .before .before .decimal .ensures)) ∙ b .if1 .left) (sym (c .before .before .between2 .ensures ∙ ap (between 0 999) (c .before .before .before .whole .ensures)) ∙ c .before .if2 .taken)
+    let d = c .before .before in
+    let b = d .before .before in
+    c .then .ensures ∙ ap (λ (n : Number). then n 0) (d .before .whole .ensures)
+    ∙ water-metres _ (sym (b .before .between .ensures ∙ ap (between 0 999) (b .before .before .decimal .ensures)) ∙ b .if1 .left)
+    (sym (d .between2 .ensures ∙ ap (between 0 999) (d .before .whole .ensures)) ∙ c .before .if2 .taken)
 
 returns-3 : tie.Need-returns-3
 returns-3 c =
     let b = c .before .before .before in
-    water-none _ (sym (b .before .between .ensures ∙ ap (between 0 999) (b .before .before .decimal .ensures)) ∙ b .if1 .left) (sym (c .before .between2 .ensures ∙ ap (between 0 999) (c .before .before .whole .ensures)) ∙ c .if2 .left)
+    water-none _ (sym (b .before .between .ensures ∙ ap (between 0 999) (b .before .before .decimal .ensures)) ∙ b .if1 .left)
+    (sym (c .before .between2 .ensures ∙ ap (between 0 999) (c .before .before .whole .ensures)) ∙ c .if2 .left)
 
 pub water-spec : {M : Type 1} → statement M
 water-spec =

@@ -23,11 +23,15 @@ returns c = sym (ap (λ (n : Number). between (c .before .before .args .lo) (c .
 
 returns-2 : tie.Need-returns-2
 unfolding between
-returns-2 c = (rw (le-leb _ _ (c .if1 .taken))) ∙ sym (ap (λ (n : Number). between (c .before .before .before .before .args .lo) (c .before .before .before .before .args .hi) (number n)) (c .before .before .n .given .1))
+returns-2 c =
+    (rw (le-leb _ _ (c .if1 .taken))) ∙ sym (ap (λ (n : Number). between (c .before .before .before .before .args .lo)
+    (c .before .before .before .before .args .hi) (number n)) (c .before .before .n .given .1))
 
 returns-3 : tie.Need-returns-3
 unfolding between
-returns-3 c = (rw (lt-leb _ _ (c .if1 .left))) ∙ sym (ap (λ (n : Number). between (c .before .before .before .before .args .lo) (c .before .before .before .before .args .hi) (number n)) (c .before .before .n .given .1))
+returns-3 c =
+    (rw (lt-leb _ _ (c .if1 .left))) ∙ sym (ap (λ (n : Number). between (c .before .before .before .before .args .lo)
+    (c .before .before .before .before .args .hi) (number n)) (c .before .before .n .given .1))
 
 returns-4 : tie.Need-returns-4
 unfolding between

@@ -45,7 +45,9 @@ returns-2 c =
 
 returns-3 : tie.Need-returns-3
 unfolding value
-returns-3 c = negated-back _ (size-minus _ _ _ (c .before .n2 .given .1) (c .before .before .before .pre)) ∙ sym (ap (λ (n : Number). value (number n)) (c .before .n2 .given .1))
+returns-3 c =
+    negated-back _ (size-minus _ _ _ (c .before .n2 .given .1) (c .before .before .before .pre))
+    ∙ sym (ap (λ (n : Number). value (number n)) (c .before .n2 .given .1))
 
 pub value-spec : {M : Type 1} → statement M
 value-spec =

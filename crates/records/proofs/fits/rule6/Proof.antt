@@ -51,7 +51,8 @@ returns-3 c =
     let r = d .before .before .before .before .before .before .before in
     let p = reach sps93 (r .before .args .l .now) in
     let e = r .reach-of .ensures in
-    c .at-line3 .ensures ∙ six-none _ p _ e (d .before .before .before .before .before .if1 .left) (d .before .before .before .if2 .left) _ (d .before .before .traces .ensures p e) (d .if3 .taken)
+    c .at-line3 .ensures ∙ six-none _ p _ e (d .before .before .before .before .before .if1 .left) (d .before .before .before .if2 .left) _
+    (d .before .before .traces .ensures p e) (d .if3 .taken)
 
 rem-if4 : tie.Need-rem-if4
 rem-if4 c = search needs
@@ -66,7 +67,8 @@ returns-4 c =
     let r = d .before .before .before .before .before .before .before .before in
     let p = reach sps93 (r .before .args .l .now) in
     let e = r .reach-of .ensures in
-    c .at-line4 .ensures ∙ six-multiple _ p _ e (d .before .before .before .before .before .before .if1 .left) (d .before .before .before .before .if2 .left) _ (d .before .before .before .traces .ensures p e) (d .if4 .taken)
+    c .at-line4 .ensures ∙ six-multiple _ p _ e (d .before .before .before .before .before .before .if1 .left)
+    (d .before .before .before .before .if2 .left) _ (d .before .before .before .traces .ensures p e) (d .if4 .taken)
 
 div-if5 : tie.Need-div-if5
 div-if5 c = search needs
@@ -84,14 +86,18 @@ returns-5 c =
     let r = d .before .before .before .before .before .before .before .before .before .before in
     let p = reach sps93 (r .before .args .l .now) in
     let e = r .reach-of .ensures in
-    c .at-line5 .ensures ∙ six-count _ p _ e (d .before .before .before .before .before .before .before .before .if1 .left) (d .before .before .before .before .before .before .if2 .left) _ (d .before .before .before .before .before .traces .ensures p e) (d .before .before .if4 .left) _ (d .before .receivers .ensures p e) (d .if5 .taken)
+    c .at-line5 .ensures ∙ six-count _ p _ e (d .before .before .before .before .before .before .before .before .if1 .left)
+    (d .before .before .before .before .before .before .if2 .left) _ (d .before .before .before .before .before .traces .ensures p e)
+    (d .before .before .if4 .left) _ (d .before .receivers .ensures p e) (d .if5 .taken)
 
 returns-6 : tie.Need-returns-6
 returns-6 c =
-    let r = c .before .before .before .before .before .before .before .before .before .before in
+    let b = c .before .before .before .before .before in
+    let r = b .before .before .before .before .before in
     let p = reach sps93 (r .before .args .l .now) in
     let e = r .reach-of .ensures in
-    six-fine _ p _ e (c .before .before .before .before .before .before .before .before .if1 .left) (c .before .before .before .before .before .before .if2 .left) _ (c .before .before .before .before .before .traces .ensures p e) (c .before .before .if4 .left) _ (c .before .receivers .ensures p e) (c .if5 .left)
+    six-fine _ p _ e (b .before .before .before .if1 .left) (b .before .if2 .left) _ (b .traces .ensures p e) (c .before .before .if4 .left) _
+    (c .before .receivers .ensures p e) (c .if5 .left)
 
 pub rule6-spec : {M : Type 1} → statement M
 rule6-spec =

@@ -17,7 +17,9 @@ value-requires : tie.Need-value-requires
 value-requires c κs = search needs
 
 returns-2 : tie.Need-returns-2
-returns-2 c = rw (sym (c .before .before .blank .ensures) ∙ c .before .if1 .left) (ap Value (toZ-ofZ w64 (c .value .result) (record { sfits = c .value .ok }) ∙ c .value .ensures))
+returns-2 c =
+    rw (sym (c .before .before .blank .ensures) ∙ c .before .if1 .left)
+    (ap Value (toZ-ofZ w64 (c .value .result) (record { sfits = c .value .ok }) ∙ c .value .ensures))
 
 pub held-at-spec : {M : Type 1} → statement M
 held-at-spec = tie.close (tie.spec blank-requires returns value-requires returns-2)

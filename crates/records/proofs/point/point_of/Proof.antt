@@ -86,19 +86,31 @@ number-at-requires-3 c κs = search needs
 returns : tie.Need-returns
 unfolding point sps93 numberOf indexAt nameOf at holds
 returns c =
-    let l = c .before .before .before .before .before .before .before .before .before .before .before .before .before .before .before .before .before .before .before .before .before .before .args .l .now in
-    let p-name = c .before .before .before .before .before .before .before .before .before .before .before .before .before .before .before .before .before .before .before .before .before .name .ensures in
-    let p-number = c .before .before .before .before .before .before .before .before .before .before .before .before .before .before .number-at .ensures in
-    let p-index = c .before .before .before .before .before .before .before .before .before .before .before .before .before .index-at .ensures in
-    let p-code = c .before .before .before .before .before .before .before .before .before .before .before .before .pack .ensures in
-    let p-fixed = (c .before .before .before .before .before .before .before .before .before .before .before .before .before .before .before .before .before .before .before .held-at .ensures ∙ ap (λ (n : Number). heldOf (blank (cols l 29 32)) (value n)) (c .before .before .before .before .before .before .before .before .before .before .before .before .before .before .before .before .before .before .before .before .signed .ensures) ∙ held-is (blank (cols l 29 32)) (value (signed (cols l 29 32)))) in
-    let p-depth = (toZ-ofZ w64 (c .before .before .before .before .before .before .before .before .before .before .value .result) (record { sfits = c .before .before .before .before .before .before .before .before .before .before .value .ok }) ∙ c .before .before .before .before .before .before .before .before .before .before .value .ensures ∙ ap value (c .before .before .before .before .before .before .before .before .before .before .before .decimal .ensures)) in
-    let p-datum = (toZ-ofZ w64 (c .before .before .before .before .before .before .before .before .value2 .result) (record { sfits = c .before .before .before .before .before .before .before .before .value2 .ok }) ∙ c .before .before .before .before .before .before .before .before .value2 .ensures ∙ ap value (c .before .before .before .before .before .before .before .before .before .signed2 .ensures)) in
-    let p-uphole = (c .before .before .before .before .before .before .before .before .before .before .before .before .before .before .before .before .before .held-at2 .ensures ∙ ap (λ (n : Number). heldOf (blank (cols l 41 42)) (value n)) (c .before .before .before .before .before .before .before .before .before .before .before .before .before .before .before .before .before .before .whole .ensures) ∙ held-is (blank (cols l 41 42)) (value (whole (cols l 41 42)))) in
-    let p-water = (c .before .before .before .before .before .before .before .before .before .before .before .before .before .before .before .held-at3 .ensures ∙ ap (λ (n : Number). heldOf (blank (cols l 43 46)) (value n)) (c .before .before .before .before .before .before .before .before .before .before .before .before .before .before .before .before .water .ensures) ∙ held-is (blank (cols l 43 46)) (value (water (cols l 43 46)))) in
-    let p-easting = (toZ-ofZ w64 (c .before .before .before .before .before .before .value3 .result) (record { sfits = c .before .before .before .before .before .before .value3 .ok }) ∙ c .before .before .before .before .before .before .value3 .ensures ∙ ap value (c .before .before .before .before .before .before .before .signed-decimal .ensures)) in
-    let p-northing = (toZ-ofZ w64 (c .before .before .before .before .value4 .result) (record { sfits = c .before .before .before .before .value4 .ok }) ∙ c .before .before .before .before .value4 .ensures ∙ ap value (c .before .before .before .before .before .signed-decimal2 .ensures)) in
-    let p-elevation = (toZ-ofZ w64 (c .before .before .value5 .result) (record { sfits = c .before .before .value5 .ok }) ∙ c .before .before .value5 .ensures ∙ ap value (c .before .before .before .signed-decimal3 .ensures)) in
+    let b = c .before .before .before .before .before .before .before .before in
+    let d = b .before .before .before .before .before .before .before in
+    let l = d .before .before .before .before .before .before .before .args .l .now in
+    let p-name = d .before .before .before .before .before .before .name .ensures in
+    let p-number = b .before .before .before .before .before .before .number-at .ensures in
+    let p-index = b .before .before .before .before .before .index-at .ensures in
+    let p-code = b .before .before .before .before .pack .ensures in
+    let p-fixed = (d .before .before .before .before .held-at .ensures ∙ ap (λ (n : Number). heldOf (blank (cols l 29 32)) (value n))
+    (d .before .before .before .before .before .signed .ensures) ∙ held-is (blank (cols l 29 32)) (value (signed (cols l 29 32)))) in
+    let p-depth = (toZ-ofZ w64 (b .before .before .value .result) (record { sfits = b .before .before .value .ok })
+    ∙ b .before .before .value .ensures ∙ ap value (b .before .before .before .decimal .ensures)) in
+    let p-datum = (toZ-ofZ w64 (b .value2 .result) (record { sfits = b .value2 .ok }) ∙ b .value2 .ensures ∙ ap value (b .before .signed2 .ensures)) in
+    let p-uphole = (d .before .before .held-at2 .ensures ∙ ap (λ (n : Number). heldOf (blank (cols l 41 42)) (value n))
+    (d .before .before .before .whole .ensures) ∙ held-is (blank (cols l 41 42)) (value (whole (cols l 41 42)))) in
+    let p-water = (d .held-at3 .ensures ∙ ap (λ (n : Number). heldOf (blank (cols l 43 46)) (value n)) (d .before .water .ensures)
+    ∙ held-is (blank (cols l 43 46)) (value (water (cols l 43 46)))) in
+    let p-easting = (toZ-ofZ w64 (c .before .before .before .before .before .before .value3 .result)
+    (record { sfits = c .before .before .before .before .before .before .value3 .ok })
+    ∙ c .before .before .before .before .before .before .value3 .ensures
+    ∙ ap value (c .before .before .before .before .before .before .before .signed-decimal .ensures)) in
+    let p-northing = (toZ-ofZ w64 (c .before .before .before .before .value4 .result)
+    (record { sfits = c .before .before .before .before .value4 .ok }) ∙ c .before .before .before .before .value4 .ensures
+    ∙ ap value (c .before .before .before .before .before .signed-decimal2 .ensures)) in
+    let p-elevation = (toZ-ofZ w64 (c .before .before .value5 .result) (record { sfits = c .before .before .value5 .ok })
+    ∙ c .before .before .value5 .ensures ∙ ap value (c .before .before .before .signed-decimal3 .ensures)) in
     let p-day = c .before .number-at2 .ensures in
     let p-time = c .number-at3 .ensures in
     λ i.

@@ -21,7 +21,8 @@ enum-known-t c = search needs
 
 point-row-requires : tie.Need-point-row-requires
 unfolding rowsOf headerRows pointRows relationRows
-point-row-requires c κs = subst (λ (t : Table). c .before .before .before .args .j < length (rowsOf t)) (c .before .t .given .1) (c .before .before .before .pre)
+point-row-requires c κs =
+    subst (λ (t : Table). c .before .before .before .args .j < length (rowsOf t)) (c .before .t .given .1) (c .before .before .before .pre)
 
 enum-told-2 : tie.Need-enum-told-2
 enum-told-2 c = search needs

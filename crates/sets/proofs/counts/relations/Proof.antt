@@ -38,11 +38,18 @@ loop-less c = search needs
 
 loop-again : tie.Need-loop-again Inv-loop μ-loop
 loop-again c =
-    let at = c .before .before .before .loop in
-    let a = c .before .before .before .before .before .before .args in
-    let n = c .before .before .before .before .line-count .ensures in
-    let h : at .k < sheetOf (a .how) (a .x .now) .count = omega arith in
-    (omega arith, (omega arith, count-yes _ _ _ (at .inv .1 .1) (sym (takes-record (sheetOf (a .how) (a .x .now)) (at .k) h) ∙ sym (c .before .takes .ensures) ∙ c .if1 .taken)))
+    let b = c .before .before .before in
+    let at = b .loop in
+    let a = b .before .before .before .args in
+    let n = b .before .line-count .ensures in
+    let h : at .k < sheetOf (a .how) (a .x .now) .count = omega arith in (
+      omega arith,
+      (
+        omega arith,
+        count-yes _ _ _ (at .inv .1 .1) (sym (takes-record (sheetOf (a .how) (a .x .now)) (at .k) h)
+            ∙ sym (c .before .takes .ensures) ∙ c .if1 .taken),
+      ),
+    )
 
 add-k-2 : tie.Need-add-k-2 Inv-loop μ-loop
 add-k-2 c = search needs
@@ -52,11 +59,18 @@ loop-less-2 c = search needs
 
 loop-again-2 : tie.Need-loop-again-2 Inv-loop μ-loop
 loop-again-2 c =
-    let at = c .before .before .before .loop in
-    let a = c .before .before .before .before .before .before .args in
-    let n = c .before .before .before .before .line-count .ensures in
-    let h : at .k < sheetOf (a .how) (a .x .now) .count = omega arith in
-    (omega arith, (omega arith, count-no _ _ _ (at .inv .1 .1) (sym (takes-record (sheetOf (a .how) (a .x .now)) (at .k) h) ∙ sym (c .before .takes .ensures) ∙ c .if1 .left)))
+    let b = c .before .before .before in
+    let at = b .loop in
+    let a = b .before .before .before .args in
+    let n = b .before .line-count .ensures in
+    let h : at .k < sheetOf (a .how) (a .x .now) .count = omega arith in (
+      omega arith,
+      (
+        omega arith,
+        count-no _ _ _ (at .inv .1 .1) (sym (takes-record (sheetOf (a .how) (a .x .now)) (at .k) h)
+            ∙ sym (c .before .takes .ensures) ∙ c .if1 .left),
+      ),
+    )
 
 returns : tie.Need-returns Inv-loop μ-loop
 unfolding relations

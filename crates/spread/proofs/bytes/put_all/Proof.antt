@@ -37,15 +37,28 @@ is-of-requires c κs = let n = c .before .before .line-count .ensures in omega a
 
 put-requires : tie.Need-put-requires Inv-loop μ-loop
 put-requires c κs =
-    let a = c .before .before .before .before .before .before .before .before .before .before .before .before .args in
-    let p = c .before .before .before .before .before .before .before .before .before .before .before .before .pre in
-    let at = c .before .before .before .before .loop in
-    let n = c .before .before .before .before .before .line-count .ensures in
+    let b = c .before .before .before .before in
+    let d = b .before .before .before .before .before .before .before .before in
+    let a = d .args in
+    let X = sheetOf (a .how) (a .x .now) in
+    let p = d .pre in
+    let at = b .loop in
+    let n = b .before .line-count .ensures in
     let y = c .before .before .before .loop-test .taken in
     let l = ap length (at .inv .1) ∙ taken-size bytePlace bytes _ _ _ _ in
     let g = p .1 .1 in
-    let z = room-on (sheetOf (a .how) (a .x .now)) (a .tape .now) (a .«record») (p .0 .0 .relations) (p .1 .0) _ (c .before .before .before .before .before .before .coded .ensures) (at .k) (omega arith) _ (c .before .before .is-of .ensures) (c .before .if1 .taken) (length (a .lines .now) / 2) (omega arith) in
-    (p .0, ((omega arith, relation-on (sheetOf (a .how) (a .x .now)) (a .tape .now) (a .«record») (p .0 .0 .relations) (p .1 .0) _ (c .before .before .before .before .before .before .coded .ensures) (at .k) (omega arith) _ (c .before .before .is-of .ensures) (c .before .if1 .taken)), omega arith))
+    let z = room-on X (a .tape .now) (a .«record») (p .0 .0 .relations) (p .1 .0) _ (b .before .before .coded .ensures) (at .k) (omega arith) _
+    (c .before .before .is-of .ensures) (c .before .if1 .taken) (length (a .lines .now) / 2) (omega arith) in (
+      p .0,
+      (
+        (
+          omega arith,
+          relation-on X (a .tape .now) (a .«record») (p .0 .0 .relations) (p .1 .0) _ (b .before .before .coded .ensures) (at .k)
+              (omega arith) _ (c .before .before .is-of .ensures) (c .before .if1 .taken),
+        ),
+        omega arith,
+      ),
+    )
 
 add-k : tie.Need-add-k Inv-loop μ-loop
 add-k c = search needs
@@ -56,17 +69,22 @@ loop-less c = search needs
 loop-again : tie.Need-loop-again Inv-loop μ-loop
 unfolding lineOf
 loop-again c =
-    let a = c .before .before .before .before .before .before .before .before .before .before .before .before .before .before .before .args in
-    let p = c .before .before .before .before .before .before .before .before .before .before .before .before .before .before .before .pre in
-    let at = c .before .before .before .before .before .before .before .loop in
-    let n = c .before .before .before .before .before .before .before .before .line-count .ensures in
-    let y = c .before .before .before .before .before .before .loop-test .taken in
+    let b = c .before .before .before .before .before in
+    let d = b .before .before .before .before .before .before .before .before .before .before in
+    let a = d .args in
+    let R = sheetOf (a .how) (a .r .now) in
+    let X = sheetOf (a .how) (a .x .now) in
+    let p = d .pre in
+    let at = b .before .before .loop in
+    let n = b .before .before .before .line-count .ensures in
+    let y = b .before .loop-test .taken in
     let l = ap length (at .inv .1) ∙ taken-size bytePlace bytes _ _ _ _ in (
       omega arith,
-      line-on (sheetOf (a .how) (a .x .now)) (a .tape .now) (a .«record») (p .0 .0 .relations) (p .1 .0) _ (c .before .before .before .before .before .before .before .before .before .coded .ensures) (at .k) (omega arith) _ (c .before .before .before .before .before .is-of .ensures) (c .before .before .before .before .if1 .taken) (sheetOf (a .how) (a .r .now)) (p .0 .0) bytePlace bytes lineOf
-          (lineIn (sheetOf (a .how) (a .r .now)) (sheetOf (a .how) (a .x .now)) (at .k)) (lineAt (sheetOf (a .how) (a .r .now)) (sheetOf (a .how) (a .x .now)) (a .tape .now) (a .«record»))
+      line-on X (a .tape .now) (a .«record») (p .0 .0 .relations) (p .1 .0) _ (b .before .before .before .before .coded .ensures) (at .k)
+          (omega arith) _ (b .is-of .ensures) (c .before .before .before .before .if1 .taken) R (p .0 .0) bytePlace bytes lineOf
+          (lineIn R X (at .k)) (lineAt R X (a .tape .now) (a .«record»))
           (λ i. refl) (λ i. refl) _ _ _ _ (at .inv .1)
-          (c .before .before .put .ensures ∙ ap (λ (i : ℕ). taken bytePlace (carries (reachAt (sheetOf (a .how) (a .x .now)) (at .k))) (lineIn (sheetOf (a .how) (a .r .now)) (sheetOf (a .how) (a .x .now)) (at .k)) (i / 2) (at .lines)) l),
+          (c .before .before .put .ensures ∙ ap (λ (i : ℕ). taken bytePlace (carries (reachAt X (at .k))) (lineIn R X (at .k)) (i / 2) (at .lines)) l),
     )
 
 add-k-2 : tie.Need-add-k-2 Inv-loop μ-loop
@@ -77,12 +95,17 @@ loop-less-2 c = search needs
 
 loop-again-2 : tie.Need-loop-again-2 Inv-loop μ-loop
 loop-again-2 c =
-    let a = c .before .before .before .before .before .before .before .before .before .before .before .args in
-    let p = c .before .before .before .before .before .before .before .before .before .before .before .pre in
-    let at = c .before .before .before .loop in
-    let n = c .before .before .before .before .line-count .ensures in
-    let y = c .before .before .loop-test .taken in
-    (omega arith, line-off (sheetOf (a .how) (a .x .now)) (a .tape .now) (a .«record») (p .0 .0 .relations) (p .1 .0) _ (c .before .before .before .before .before .coded .ensures) (at .k) (omega arith) _ (c .before .is-of .ensures) bytePlace bytes _ _ _ _ (at .inv .1) (c .if1 .left))
+    let b = c .before .before .before in
+    let d = b .before .before .before .before .before .before .before .before in
+    let a = d .args in
+    let p = d .pre in
+    let at = b .loop in
+    let n = b .before .line-count .ensures in
+    let y = c .before .before .loop-test .taken in (
+      omega arith,
+      line-off (sheetOf (a .how) (a .x .now)) (a .tape .now) (a .«record») (p .0 .0 .relations) (p .1 .0) _
+          (b .before .before .coded .ensures) (at .k) (omega arith) _ (c .before .is-of .ensures) bytePlace bytes _ _ _ _ (at .inv .1) (c .if1 .left),
+    )
 
 same-length : tie.Need-same-length Inv-loop μ-loop
 same-length c = ap length (c .before .loop .inv .1) ∙ taken-size bytePlace bytes _ _ _ _
@@ -90,10 +113,12 @@ same-length c = ap length (c .before .loop .inv .1) ∙ taken-size bytePlace byt
 returns : tie.Need-returns Inv-loop μ-loop
 returns c =
     let a = c .before .before .before .before .before .before .before .before .before .args in
+    let X = sheetOf (a .how) (a .x .now) in
     let at = c .before .loop in
     let n = c .before .before .line-count .ensures in
-    let z : at .k ≡ (sheetOf (a .how) (a .x .now)) .count = omega arith in
-    at .inv .1 ∙ ap (λ (i : ℕ). taken bytePlace (hereUpTo (sheetOf (a .how) (a .x .now)) (a .tape .now) (a .«record») i) (lineAt (sheetOf (a .how) (a .r .now)) (sheetOf (a .how) (a .x .now)) (a .tape .now) (a .«record»)) (length (a .lines .now) / 2) (a .lines .now)) z
+    let z : at .k ≡ X .count = omega arith in
+    at .inv .1 ∙ ap (λ (i : ℕ). taken bytePlace (hereUpTo X (a .tape .now) (a .«record») i)
+    (lineAt (sheetOf (a .how) (a .r .now)) X (a .tape .now) (a .«record»)) (length (a .lines .now) / 2) (a .lines .now)) z
 
 pub put-all-spec : {M : Type 1} → statement M
 put-all-spec =

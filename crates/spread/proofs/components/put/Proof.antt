@@ -54,19 +54,21 @@ loop-holds c =
 
 component-requires : tie.Need-component-requires Inv-loop μ-loop
 component-requires c κs =
-    let a = c .before .before .before .before .before .before .before .before .before .args in
-    let p = c .before .before .before .before .before .before .before .before .before .pre in
+    let b = c .before .before .before .before in
+    let a = b .before .before .before .before .before .args in
+    let p = b .before .before .before .before .before .pre in
     let X = sheetOf (a .how) (a .x .now) in
-    let e = reads (a .how) (a .x .now) (a .k) _ _ (c .before .before .before .before .before .before .line-of .ensures) (c .before .before .before .before .reach-of .ensures) in
+    let e = reads (a .how) (a .x .now) (a .k) _ _ (b .before .before .line-of .ensures) (b .reach-of .ensures) in
     let w = ranges (p .0 .0) X (p .0 .1) (a .k) (p .1 .0) _ e in
     (omega arith, (omega arith, omega arith))
 
 cast-components : tie.Need-cast-components Inv-loop μ-loop
 cast-components c =
-    let a = c .before .before .before .before .before .before .before .before .before .before .args in
-    let p = c .before .before .before .before .before .before .before .before .before .before .pre in
+    let b = c .before .before .before .before .before in
+    let a = b .before .before .before .before .before .args in
+    let p = b .before .before .before .before .before .pre in
     let X = sheetOf (a .how) (a .x .now) in
-    let e = reads (a .how) (a .x .now) (a .k) _ _ (c .before .before .before .before .before .before .before .line-of .ensures) (c .before .before .before .before .before .reach-of .ensures) in
+    let e = reads (a .how) (a .x .now) (a .k) _ _ (b .before .before .line-of .ensures) (b .reach-of .ensures) in
     let w = ranges (p .0 .0) X (p .0 .1) (a .k) (p .1 .0) _ e in
     let m = component-small (p .0 .0) X (p .0 .1) (a .k) (p .1 .0) _ e (c .before .before .loop .c) (c .before .before .loop .inv .0) (omega arith) in
     let n = c .component .ensures (reachAt X (a .k)) e in
@@ -74,19 +76,21 @@ cast-components c =
 
 sub-components : tie.Need-sub-components Inv-loop μ-loop
 sub-components c =
-    let a = c .before .before .before .before .before .before .before .before .before .before .args in
-    let p = c .before .before .before .before .before .before .before .before .before .before .pre in
+    let b = c .before .before .before .before .before in
+    let a = b .before .before .before .before .before .args in
+    let p = b .before .before .before .before .before .pre in
     let X = sheetOf (a .how) (a .x .now) in
-    let e = reads (a .how) (a .x .now) (a .k) _ _ (c .before .before .before .before .before .before .before .line-of .ensures) (c .before .before .before .before .before .reach-of .ensures) in
+    let e = reads (a .how) (a .x .now) (a .k) _ _ (b .before .before .line-of .ensures) (b .reach-of .ensures) in
     let w = ranges (p .0 .0) X (p .0 .1) (a .k) (p .1 .0) _ e in
     omega arith
 
 slice-write-components : tie.Need-slice-write-components Inv-loop μ-loop
 slice-write-components c =
-    let a = c .before .before .before .before .before .before .before .before .before .before .args in
-    let p = c .before .before .before .before .before .before .before .before .before .before .pre in
+    let b = c .before .before .before .before .before in
+    let a = b .before .before .before .before .before .args in
+    let p = b .before .before .before .before .before .pre in
     let X = sheetOf (a .how) (a .x .now) in
-    let e = reads (a .how) (a .x .now) (a .k) _ _ (c .before .before .before .before .before .before .before .line-of .ensures) (c .before .before .before .before .before .reach-of .ensures) in
+    let e = reads (a .how) (a .x .now) (a .k) _ _ (b .before .before .line-of .ensures) (b .reach-of .ensures) in
     let w = ranges (p .0 .0) X (p .0 .1) (a .k) (p .1 .0) _ e in
     let u = ap (λ (q : ReachValues). q .upto) e in
     let l = c .before .before .loop .inv .1 .1 .0 in
@@ -101,10 +105,11 @@ loop-less c = search needs
 
 loop-again : tie.Need-loop-again Inv-loop μ-loop
 loop-again c =
-    let a = c .before .before .before .before .before .before .before .before .before .before .args in
-    let p = c .before .before .before .before .before .before .before .before .before .before .pre in
+    let b = c .before .before .before .before .before in
+    let a = b .before .before .before .before .before .args in
+    let p = b .before .before .before .before .before .pre in
     let X = sheetOf (a .how) (a .x .now) in
-    let e = reads (a .how) (a .x .now) (a .k) _ _ (c .before .before .before .before .before .before .before .line-of .ensures) (c .before .before .before .before .before .reach-of .ensures) in
+    let e = reads (a .how) (a .x .now) (a .k) _ _ (b .before .before .line-of .ensures) (b .reach-of .ensures) in
     let w = ranges (p .0 .0) X (p .0 .1) (a .k) (p .1 .0) _ e in
     let u = ap (λ (q : ReachValues). q .upto) e in
     let l = c .before .before .loop .inv .1 .1 .0 in
@@ -126,13 +131,14 @@ same-length c = c .before .loop .inv .1 .1 .0
 
 returns : tie.Need-returns Inv-loop μ-loop
 returns c =
-    let a = c .before .before .before .before .before .before .before .before .before .args in
-    let p = c .before .before .before .before .before .before .before .before .before .pre in
+    let b = c .before .before .before .before in
+    let a = b .before .before .before .before .before .args in
+    let p = b .before .before .before .before .before .pre in
     let X = sheetOf (a .how) (a .x .now) in
-    let e = reads (a .how) (a .x .now) (a .k) _ _ (c .before .before .before .before .before .before .line-of .ensures) (c .before .before .before .before .reach-of .ensures) in
+    let e = reads (a .how) (a .x .now) (a .k) _ _ (b .before .before .line-of .ensures) (b .reach-of .ensures) in
     let w = ranges (p .0 .0) X (p .0 .1) (a .k) (p .1 .0) _ e in
     let at = c .before .loop in
-    let z : at .c ≡ c .before .before .before .before .reach-of .result .upto + 1 = omega arith in
+    let z : at .c ≡ b .reach-of .result .upto + 1 = omega arith in
     all-put (p .0 .0) X (p .0 .1) (a .k) (p .1 .0) _ e place numbers _ (component (reachAt X (a .k))) (λ i g h. refl) _ _ z _ _
     (at .inv .1 .1 .1 (reachAt X (a .k)) e)
 

@@ -37,14 +37,27 @@ is-of-requires c κs = let n = c .before .before .line-count .ensures in omega a
 
 put-requires : tie.Need-put-requires Inv-loop μ-loop
 put-requires c κs =
-    let a = c .before .before .before .before .before .before .before .before .before .before .args in
-    let p = c .before .before .before .before .before .before .before .before .before .before .pre in
-    let at = c .before .before .before .before .loop in
-    let n = c .before .before .before .before .before .line-count .ensures in
+    let b = c .before .before .before .before in
+    let d = b .before .before in
+    let a = d .before .before .before .before .args in
+    let X = sheetOf (a .how) (a .x .now) in
+    let p = d .before .before .before .before .pre in
+    let at = b .loop in
+    let n = b .before .line-count .ensures in
     let y = c .before .before .before .loop-test .taken in
     let l = ap length (at .inv .1) ∙ taken-size place numbers _ _ _ _ in
-    let g = p .1 .1 in
-    (p .0, ((omega arith, relation-on (sheetOf (a .how) (a .x .now)) (a .tape .now) (a .«record») (p .0 .1 .relations) (p .1 .0) _ (c .before .before .before .before .before .before .coded .ensures) (at .k) (omega arith) _ (c .before .before .is-of .ensures) (c .before .if1 .taken)), room-on (sheetOf (a .how) (a .x .now)) (a .tape .now) (a .«record») (p .0 .1 .relations) (p .1 .0) _ (c .before .before .before .before .before .before .coded .ensures) (at .k) (omega arith) _ (c .before .before .is-of .ensures) (c .before .if1 .taken) _ (omega arith)))
+    let g = p .1 .1 in (
+      p .0,
+      (
+        (
+          omega arith,
+          relation-on X (a .tape .now) (a .«record») (p .0 .1 .relations) (p .1 .0) _ (d .coded .ensures) (at .k) (omega arith) _
+              (c .before .before .is-of .ensures) (c .before .if1 .taken),
+        ),
+        room-on X (a .tape .now) (a .«record») (p .0 .1 .relations) (p .1 .0) _
+            (d .coded .ensures) (at .k) (omega arith) _ (c .before .before .is-of .ensures) (c .before .if1 .taken) _ (omega arith),
+      ),
+    )
 
 add-k : tie.Need-add-k Inv-loop μ-loop
 add-k c = search needs
@@ -55,17 +68,21 @@ loop-less c = search needs
 loop-again : tie.Need-loop-again Inv-loop μ-loop
 unfolding componentOf
 loop-again c =
-    let a = c .before .before .before .before .before .before .before .before .before .before .before .before .before .args in
-    let p = c .before .before .before .before .before .before .before .before .before .before .before .before .before .pre in
-    let at = c .before .before .before .before .before .before .before .loop in
-    let n = c .before .before .before .before .before .before .before .before .line-count .ensures in
-    let y = c .before .before .before .before .before .before .loop-test .taken in
+    let b = c .before .before .before .before .before in
+    let d = b .before .before .before in
+    let a = d .before .before .before .before .before .args in
+    let X = sheetOf (a .how) (a .x .now) in
+    let p = d .before .before .before .before .before .pre in
+    let at = b .before .before .loop in
+    let n = d .line-count .ensures in
+    let y = b .before .loop-test .taken in
     let l = ap length (at .inv .1) ∙ taken-size place numbers _ _ _ _ in (
       omega arith,
-      line-on (sheetOf (a .how) (a .x .now)) (a .tape .now) (a .«record») (p .0 .1 .relations) (p .1 .0) _ (c .before .before .before .before .before .before .before .before .before .coded .ensures) (at .k) (omega arith) _ (c .before .before .before .before .before .is-of .ensures) (c .before .before .before .before .if1 .taken) (p .0 .0) (p .0 .1) place numbers componentOf
-          (component (reachAt (sheetOf (a .how) (a .x .now)) (at .k))) (componentAt (sheetOf (a .how) (a .x .now)) (a .tape .now) (a .«record»))
-          (λ i. refl) (component-at (p .0 .0) (sheetOf (a .how) (a .x .now)) (a .tape .now) (a .«record»)) _ _ _ _ (at .inv .1)
-          (c .before .before .put .ensures ∙ ap (λ (i : ℕ). taken place (carries (reachAt (sheetOf (a .how) (a .x .now)) (at .k))) (component (reachAt (sheetOf (a .how) (a .x .now)) (at .k))) (i) (at .components)) l),
+      line-on X (a .tape .now) (a .«record») (p .0 .1 .relations) (p .1 .0) _ (d .before .coded .ensures) (at .k) (omega arith) _ (b .is-of .ensures)
+          (c .before .before .before .before .if1 .taken) (p .0 .0) (p .0 .1) place numbers componentOf
+          (component (reachAt X (at .k))) (componentAt X (a .tape .now) (a .«record»))
+          (λ i. refl) (component-at (p .0 .0) X (a .tape .now) (a .«record»)) _ _ _ _ (at .inv .1)
+          (c .before .before .put .ensures ∙ ap (λ (i : ℕ). taken place (carries (reachAt X (at .k))) (component (reachAt X (at .k))) (i) (at .components)) l),
     )
 
 add-k-2 : tie.Need-add-k-2 Inv-loop μ-loop
@@ -76,12 +93,17 @@ loop-less-2 c = search needs
 
 loop-again-2 : tie.Need-loop-again-2 Inv-loop μ-loop
 loop-again-2 c =
-    let a = c .before .before .before .before .before .before .before .before .before .args in
-    let p = c .before .before .before .before .before .before .before .before .before .pre in
-    let at = c .before .before .before .loop in
-    let n = c .before .before .before .before .line-count .ensures in
-    let y = c .before .before .loop-test .taken in
-    (omega arith, line-off (sheetOf (a .how) (a .x .now)) (a .tape .now) (a .«record») (p .0 .1 .relations) (p .1 .0) _ (c .before .before .before .before .before .coded .ensures) (at .k) (omega arith) _ (c .before .is-of .ensures) place numbers _ _ _ _ (at .inv .1) (c .if1 .left))
+    let b = c .before .before .before in
+    let d = b .before .before .before .before .before .before in
+    let a = d .args in
+    let p = d .pre in
+    let at = b .loop in
+    let n = b .before .line-count .ensures in
+    let y = c .before .before .loop-test .taken in (
+      omega arith,
+      line-off (sheetOf (a .how) (a .x .now)) (a .tape .now) (a .«record») (p .0 .1 .relations) (p .1 .0) _
+          (b .before .before .coded .ensures) (at .k) (omega arith) _ (c .before .is-of .ensures) place numbers _ _ _ _ (at .inv .1) (c .if1 .left),
+    )
 
 same-length : tie.Need-same-length Inv-loop μ-loop
 same-length c = ap length (c .before .loop .inv .1) ∙ taken-size place numbers _ _ _ _
@@ -89,10 +111,12 @@ same-length c = ap length (c .before .loop .inv .1) ∙ taken-size place numbers
 returns : tie.Need-returns Inv-loop μ-loop
 returns c =
     let a = c .before .before .before .before .before .before .before .args in
+    let X = sheetOf (a .how) (a .x .now) in
     let at = c .before .loop in
     let n = c .before .before .line-count .ensures in
-    let z : at .k ≡ (sheetOf (a .how) (a .x .now)) .count = omega arith in
-    at .inv .1 ∙ ap (λ (i : ℕ). taken place (hereUpTo (sheetOf (a .how) (a .x .now)) (a .tape .now) (a .«record») i) (componentAt (sheetOf (a .how) (a .x .now)) (a .tape .now) (a .«record»)) (length (a .components .now)) (a .components .now)) z
+    let z : at .k ≡ X .count = omega arith in
+    at .inv .1 ∙ ap (λ (i : ℕ). taken place (hereUpTo X (a .tape .now) (a .«record») i) (componentAt X (a .tape .now) (a .«record»))
+    (length (a .components .now)) (a .components .now)) z
 
 pub put-all-spec : {M : Type 1} → statement M
 put-all-spec =

@@ -41,10 +41,11 @@ pack-requires c κs = search needs
 
 returns : tie.Need-returns Inv-loop μ-loop
 returns c =
-    let at = c .before .before .before .loop in
-    let t = c .before .before .before .before .before .args .tape .now in
+    let b = c .before .before .before in
+    let at = b .loop in
+    let t = b .before .before .args .tape .now in
     let e : at .i ≡ 6 = omega arith in
-    wanted-is _ t _ (c .pack .ensures ∙ ap packed (six-columns (at .l) t (tape-length _ _ (c .before .before .before .before .before .pre)) (subst (Copied t (at .l)) e (at .inv .1))))
+    wanted-is _ t _ (c .pack .ensures ∙ ap packed (six-columns (at .l) t (tape-length _ _ (b .before .before .pre)) (subst (Copied t (at .l)) e (at .inv .1))))
 
 pub coded-spec : {M : Type 1} → statement M
 coded-spec =

@@ -20,8 +20,9 @@ pack-requires c κs = search needs
 
 returns-2 : tie.Need-returns-2
 returns-2 c =
-    let a = c .before .before .before .before .before .before .before .before .before .args in
-    of-other (a .how) (a .x .now) (a .w) (a .k) _ (c .before .before .before .before .before .before .before .line-of .ensures) _ (c .before .before .before .before .before .is-header .ensures) (c .before .before .before .before .if1 .left) _
+    let b = c .before .before .before .before in
+    let a = b .before .before .before .before .before .args in
+    of-other (a .how) (a .x .now) (a .w) (a .k) _ (b .before .before .before .line-of .ensures) _ (b .before .is-header .ensures) (b .if1 .left) _
     (c .before .before .pack .ensures) (c .if2 .taken)
 
 number-at-requires : tie.Need-number-at-requires
@@ -32,8 +33,9 @@ cast-result c = search needs
 
 returns-3 : tie.Need-returns-3
 returns-3 c =
-    let a = c .before .before .before .before .before .before .before .before .before .before .before .before .args in
-    of-number (a .how) (a .x .now) (a .w) (a .k) _ (c .before .before .before .before .before .before .before .before .before .before .line-of .ensures) _ (c .before .before .before .before .before .before .before .before .is-header .ensures) (c .before .before .before .before .before .before .before .if1 .left) _
+    let b = c .before .before .before .before .before .before .before in
+    let a = b .before .before .before .before .before .args in
+    of-number (a .how) (a .x .now) (a .w) (a .k) _ (b .before .before .before .line-of .ensures) _ (b .before .is-header .ensures) (b .if1 .left) _
     (c .before .before .before .before .before .pack .ensures) (c .before .before .before .if2 .left) _ (c .before .number-at .ensures)
 
 pub is-of-spec : {M : Type 1} → statement M

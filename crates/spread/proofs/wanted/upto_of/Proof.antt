@@ -18,8 +18,9 @@ cast-result c = search needs
 
 returns : tie.Need-returns
 returns c =
-    let a = c .before .before .before .before .before .before .args in
-    upto-there (a .how) (a .x .now) (a .w) (a .k) _ (c .before .before .before .before .is-of .ensures) (c .before .before .before .if1 .taken) _ (c .before .before .line-of .ensures) _
+    let b = c .before .before in
+    let a = b .before .before .before .before .args in
+    upto-there (a .how) (a .x .now) (a .w) (a .k) _ (b .before .before .is-of .ensures) (b .before .if1 .taken) _ (b .line-of .ensures) _
     (c .number-at .ensures)
 
 returns-2 : tie.Need-returns-2

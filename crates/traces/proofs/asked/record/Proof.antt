@@ -18,10 +18,14 @@ shared-slice-read-if3 : tie.Need-shared-slice-read-if3
 shared-slice-read-if3 c = search needs
 
 returns-3 : tie.Need-returns-3
-returns-3 c = blank-first _ _ (c .before .before .before .before .if1 .left) _ (c .before .before .before .all-printable .ensures) (not-false _ (c .before .before .if2 .left)) (c .if3 .taken)
+returns-3 c =
+    blank-first _ _ (c .before .before .before .before .if1 .left) _ (c .before .before .before .all-printable .ensures)
+    (not-false _ (c .before .before .if2 .left)) (c .if3 .taken)
 
 returns-4 : tie.Need-returns-4
-returns-4 c = record-in _ _ (c .before .before .before .before .if1 .left) _ (c .before .before .before .all-printable .ensures) (not-false _ (c .before .before .if2 .left)) (c .if3 .left)
+returns-4 c =
+    record-in _ _ (c .before .before .before .before .if1 .left) _ (c .before .before .before .all-printable .ensures)
+    (not-false _ (c .before .before .if2 .left)) (c .if3 .left)
 
 pub record-spec : {M : Type 1} → statement M
 record-spec =

@@ -31,17 +31,22 @@ covers-requires c κs = search needs
 
 returns : tie.Need-returns
 returns c =
-    let a = c .before .before .before .before .before .before .before .before .before .before .args in
-    let p = c .before .before .before .before .before .before .before .before .before .before .pre in
-    let en = number-read (a .how) (a .r .now) (a .i) _ _ (c .before .before .before .before .before .before .before .line-of .ensures) (c .before .before .before .before .before .number-at .ensures) in
-    let e = reads (a .how) (a .x .now) (a .k) _ _ (c .before .before .before .before .line-of2 .ensures) (c .before .before .reach-of .ensures) in
-    not-covered (sheetOf (a .how) (a .r .now)) (sheetOf (a .how) (a .x .now)) (a .i) (a .k) (a .component) (p .0) (p .1 .0) (p .1 .1) _ en _ (c .before .covers .ensures (reachAt (sheetOf (a .how) (a .x .now)) (a .k)) e) (not-true _ (c .if1 .taken))
+    let b = c .before .before .before .before in
+    let d = b .before .before .before in
+    let a = d .before .before .before .args in
+    let X = sheetOf (a .how) (a .x .now) in
+    let p = d .before .before .before .pre in
+    let en = number-read (a .how) (a .r .now) (a .i) _ _ (d .line-of .ensures) (b .before .number-at .ensures) in
+    let e = reads (a .how) (a .x .now) (a .k) _ _ (b .line-of2 .ensures) (c .before .before .reach-of .ensures) in
+    not-covered (sheetOf (a .how) (a .r .now)) X (a .i) (a .k) (a .component) (p .0) (p .1 .0) (p .1 .1) _ en _
+    (c .before .covers .ensures (reachAt X (a .k)) e) (not-true _ (c .if1 .taken))
 
 returns-2 : tie.Need-returns-2
 returns-2 c =
-    let a = c .before .before .before .before .before .before .before .before .before .before .before .args in
-    let p = c .before .before .before .before .before .before .before .before .before .before .before .pre in
-    let en = number-read (a .how) (a .r .now) (a .i) _ _ (c .before .before .before .before .before .before .before .before .line-of .ensures) (c .before .before .before .before .before .before .number-at .ensures) in
+    let b = c .before .before .before .before .before .before in
+    let a = b .before .before .before .before .before .args in
+    let p = b .before .before .before .before .before .pre in
+    let en = number-read (a .how) (a .r .now) (a .i) _ _ (b .before .before .line-of .ensures) (b .number-at .ensures) in
     no-component (sheetOf (a .how) (a .r .now)) (sheetOf (a .how) (a .x .now)) (a .i) (a .k) (a .component) (p .0) (p .1 .0) (p .1 .1) _ en (c .if2 .taken)
 
 cast-if3 : tie.Need-cast-if3
@@ -49,11 +54,14 @@ cast-if3 c = search needs
 
 returns-3 : tie.Need-returns-3
 returns-3 c =
-    let a = c .before .before .before .before .before .before .before .before .before .before .before .before .before .args in
-    let p = c .before .before .before .before .before .before .before .before .before .before .before .before .before .pre in
-    let en = number-read (a .how) (a .r .now) (a .i) _ _ (c .before .before .before .before .before .before .before .before .before .before .line-of .ensures) (c .before .before .before .before .before .before .before .before .number-at .ensures) in
-    let e = reads (a .how) (a .x .now) (a .k) _ _ (c .before .before .before .before .before .before .before .line-of2 .ensures) (c .before .before .before .before .before .reach-of .ensures) in
-    too-high (sheetOf (a .how) (a .r .now)) (sheetOf (a .how) (a .x .now)) (a .i) (a .k) (a .component) (p .0) (p .1 .0) (p .1 .1) _ en _ (ap (λ (q : ReachValues). q .step) e) (c .if3 .taken)
+    let b = c .before .before .before .before .before .before .before in
+    let d = b .before .before .before in
+    let a = d .before .before .before .args in
+    let p = d .before .before .before .pre in
+    let en = number-read (a .how) (a .r .now) (a .i) _ _ (d .line-of .ensures) (b .before .number-at .ensures) in
+    let e = reads (a .how) (a .x .now) (a .k) _ _ (b .line-of2 .ensures) (c .before .before .before .before .before .reach-of .ensures) in
+    too-high (sheetOf (a .how) (a .r .now)) (sheetOf (a .how) (a .x .now)) (a .i) (a .k) (a .component) (p .0) (p .1 .0) (p .1 .1) _ en _
+    (ap (λ (q : ReachValues). q .step) e) (c .if3 .taken)
 
 receiver-key-requires : tie.Need-receiver-key-requires
 receiver-key-requires c κs = c .before .before .before .before .before .before .before .before .before .before .before .before .before .pre .1 .1 .0
@@ -63,12 +71,17 @@ is-at-requires c κs = search needs
 
 returns-4 : tie.Need-returns-4
 returns-4 c =
-    let a = c .before .before .before .before .before .before .before .before .before .before .before .before .before .before .before .args in
-    let p = c .before .before .before .before .before .before .before .before .before .before .before .before .before .before .before .pre in
-    let en = number-read (a .how) (a .r .now) (a .i) _ _ (c .before .before .before .before .before .before .before .before .before .before .before .before .line-of .ensures) (c .before .before .before .before .before .before .before .before .before .before .number-at .ensures) in
-    let e = reads (a .how) (a .x .now) (a .k) _ _ (c .before .before .before .before .before .before .before .before .before .line-of2 .ensures) (c .before .before .before .before .before .before .before .reach-of .ensures) in
-    by-key (sheetOf (a .how) (a .r .now)) (sheetOf (a .how) (a .x .now)) (a .i) (a .k) (a .component) (p .0) (p .1 .0) (p .1 .1) _ en _ (c .before .before .before .before .before .before .covers .ensures (reachAt (sheetOf (a .how) (a .x .now)) (a .k)) e) (not-false _ (c .before .before .before .before .before .if1 .left)) (c .before .before .before .before .if2 .left) _
-    (ap (λ (q : ReachValues). q .step) e) (c .before .before .if3 .left) _ (key-read (a .how) (a .x .now) (a .k) _ _ (c .before .receiver-key .ensures)) _ (c .is-at .ensures)
+    let b = c .before .before .before .before .before .before in
+    let d = b .before .before .before in
+    let a = d .before .before .before .before .before .before .args in
+    let X = sheetOf (a .how) (a .x .now) in
+    let p = d .before .before .before .before .before .before .pre in
+    let en = number-read (a .how) (a .r .now) (a .i) _ _ (d .before .before .before .line-of .ensures) (d .before .number-at .ensures) in
+    let e = reads (a .how) (a .x .now) (a .k) _ _ (d .line-of2 .ensures) (b .before .reach-of .ensures) in
+    by-key (sheetOf (a .how) (a .r .now)) X (a .i) (a .k) (a .component) (p .0) (p .1 .0) (p .1 .1) _ en _ (b .covers .ensures (reachAt X (a .k)) e)
+    (not-false _ (c .before .before .before .before .before .if1 .left)) (c .before .before .before .before .if2 .left) _
+    (ap (λ (q : ReachValues). q .step) e) (c .before .before .if3 .left) _
+    (key-read (a .how) (a .x .now) (a .k) _ _ (c .before .receiver-key .ensures)) _ (c .is-at .ensures)
 
 pub reaches-spec : {M : Type 1} → statement M
 reaches-spec =

@@ -33,12 +33,14 @@ carries-requires c κs = let n = c .before .before .line-count .ensures in omega
 
 returns : tie.Need-returns Inv-loop μ-loop
 returns c =
-    let a = c .before .before .before .before .before .before .before .before .args in
-    let p = c .before .before .before .before .before .before .before .before .pre in
-    let n = c .before .before .before .before .line-count .ensures in
+    let b = c .before .before .before in
+    let a = b .before .before .before .before .before .args in
+    let X = sheetOf (a .how) (a .x .now) in
+    let p = b .before .before .before .before .before .pre in
+    let n = b .before .line-count .ensures in
     let y = c .before .before .loop-test .taken in
-    sym (least-stop _ _ ((sheetOf (a .how) (a .x .now)) .count) (omega arith) (c .before .before .before .loop .inv .1) (sym (c .before .carries .ensures) ∙ c .if1 .taken))
-    ∙ walk-of (sheetOf (a .how) (a .x .now)) (p .0) (a .tape .now) (a .«record») (p .1) _ (c .before .before .before .before .before .coded .ensures) (λ q. carries q (a .channel))
+    sym (least-stop _ _ (X .count) (omega arith) (b .loop .inv .1) (sym (c .before .carries .ensures) ∙ c .if1 .taken))
+    ∙ walk-of X (p .0) (a .tape .now) (a .«record») (p .1) _ (b .before .before .coded .ensures) (λ q. carries q (a .channel))
 
 add-k : tie.Need-add-k Inv-loop μ-loop
 add-k c = search needs
@@ -51,15 +53,17 @@ loop-again c = (omega arith, least-more _ _ (c .before .before .before .loop .in
 
 returns-2 : tie.Need-returns-2 Inv-loop μ-loop
 returns-2 c =
-    let a = c .before .before .before .before .before .before .args in
-    let p = c .before .before .before .before .before .before .pre in
+    let b = c .before .before in
+    let a = b .before .before .before .before .args in
+    let X = sheetOf (a .how) (a .x .now) in
+    let p = b .before .before .before .before .pre in
     let at = c .before .loop in
-    let n = c .before .before .line-count .ensures in
+    let n = b .line-count .ensures in
     let y = c .loop-test .left in
-    let z : c .before .before .line-count .result ≡ at .k = omega arith in
-    let u : at .k ≡ (sheetOf (a .how) (a .x .now)) .count = omega arith in
-    z ∙ sym (at .inv .1) ∙ ap (λ (i : ℕ). least i (passes (sheetOf (a .how) (a .x .now)) (c .before .before .before .coded .result) (λ q. carries q (a .channel)))) u
-    ∙ walk-of (sheetOf (a .how) (a .x .now)) (p .0) (a .tape .now) (a .«record») (p .1) _ (c .before .before .before .coded .ensures) (λ q. carries q (a .channel))
+    let z : b .line-count .result ≡ at .k = omega arith in
+    let u : at .k ≡ X .count = omega arith in
+    z ∙ sym (at .inv .1) ∙ ap (λ (i : ℕ). least i (passes X (b .before .coded .result) (λ q. carries q (a .channel)))) u
+    ∙ walk-of X (p .0) (a .tape .now) (a .«record») (p .1) _ (b .before .coded .ensures) (λ q. carries q (a .channel))
 
 pub carrier-spec : {M : Type 1} → statement M
 carrier-spec =

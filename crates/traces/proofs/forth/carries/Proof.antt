@@ -28,9 +28,11 @@ carries-requires c κs = search needs
 
 returns-2 : tie.Need-returns-2
 returns-2 c =
-    let a = c .before .before .before .before .before .before .before .args in
-    passes-on (sheetOf (a .how) (a .x .now)) (a .w) (λ q. carries q (a .channel)) (a .k) _ (c .before .before .before .before .before .is-of .ensures) (not-false _ (c .before .before .before .before .if1 .left)) _
-    (c .carries .ensures (reachAt (sheetOf (a .how) (a .x .now)) (a .k)) (reads (a .how) (a .x .now) (a .k) _ _ (c .before .before .before .line-of .ensures) (c .before .reach-of .ensures)))
+    let b = c .before .before .before in
+    let a = b .before .before .before .before .args in
+    let X = sheetOf (a .how) (a .x .now) in
+    passes-on X (a .w) (λ q. carries q (a .channel)) (a .k) _ (b .before .before .is-of .ensures) (not-false _ (b .before .if1 .left)) _
+    (c .carries .ensures (reachAt X (a .k)) (reads (a .how) (a .x .now) (a .k) _ _ (b .line-of .ensures) (c .before .reach-of .ensures)))
 
 pub carries-spec : {M : Type 1} → statement M
 carries-spec =

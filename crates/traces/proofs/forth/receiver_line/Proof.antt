@@ -32,13 +32,16 @@ holds-requires c κs = search needs
 
 returns : tie.Need-returns Inv-loop μ-loop
 returns c =
-    let a = c .before .before .before .before .before .before .before .before .args in
-    let p = c .before .before .before .before .before .before .before .before .pre in
-    let n = c .before .before .before .before .line-count .ensures in
+    let b = c .before .before .before .before in
+    let d = b .before .before .before .before in
+    let a = d .args in
+    let R = sheetOf (a .how) (a .r .now) in
+    let p = d .pre in
+    let n = b .line-count .ensures in
     let y = c .before .before .loop-test .taken in
-    sym (least-stop _ _ ((sheetOf (a .how) (a .r .now)) .count) (omega arith) (c .before .before .before .loop .inv .1) (sym (c .before .holds .ensures) ∙ c .if1 .taken))
-    ∙ line-of-key (sheetOf (a .how) (a .r .now)) (sheetOf (a .how) (a .x .now)) (p .0) (p .1 .0) (a .k) (p .1 .1) (a .n) (c .before .before .before .before .before .before .before .before .fits .n .fits) _
-    (key-read (a .how) (a .x .now) (a .k) (a .n) _ (c .before .before .before .before .before .receiver-key .ensures))
+    sym (least-stop _ _ (R .count) (omega arith) (c .before .before .before .loop .inv .1) (sym (c .before .holds .ensures) ∙ c .if1 .taken))
+    ∙ line-of-key R (sheetOf (a .how) (a .x .now)) (p .0) (p .1 .0) (a .k) (p .1 .1) (a .n) (d .fits .n .fits) _
+    (key-read (a .how) (a .x .now) (a .k) (a .n) _ (b .before .receiver-key .ensures))
 
 add-j : tie.Need-add-j Inv-loop μ-loop
 add-j c = search needs
@@ -51,16 +54,19 @@ loop-again c = (omega arith, least-more _ _ (c .before .before .before .loop .in
 
 returns-2 : tie.Need-returns-2 Inv-loop μ-loop
 returns-2 c =
-    let a = c .before .before .before .before .before .before .args in
-    let p = c .before .before .before .before .before .before .pre in
+    let b = c .before .before in
+    let d = b .before .before .before .before in
+    let a = d .args in
+    let R = sheetOf (a .how) (a .r .now) in
+    let p = d .pre in
     let at = c .before .loop in
-    let n = c .before .before .line-count .ensures in
+    let n = b .line-count .ensures in
     let y = c .loop-test .left in
-    let z : c .before .before .line-count .result ≡ at .j = omega arith in
-    let u : at .j ≡ (sheetOf (a .how) (a .r .now)) .count = omega arith in
-    z ∙ sym (at .inv .1) ∙ ap (λ (i : ℕ). least i (holdsKey (sheetOf (a .how) (a .r .now)) (c .before .before .before .receiver-key .result))) u
-    ∙ line-of-key (sheetOf (a .how) (a .r .now)) (sheetOf (a .how) (a .x .now)) (p .0) (p .1 .0) (a .k) (p .1 .1) (a .n) (c .before .before .before .before .before .before .fits .n .fits) _
-    (key-read (a .how) (a .x .now) (a .k) (a .n) _ (c .before .before .before .receiver-key .ensures))
+    let z : b .line-count .result ≡ at .j = omega arith in
+    let u : at .j ≡ R .count = omega arith in
+    z ∙ sym (at .inv .1) ∙ ap (λ (i : ℕ). least i (holdsKey R (b .before .receiver-key .result))) u
+    ∙ line-of-key R (sheetOf (a .how) (a .x .now)) (p .0) (p .1 .0) (a .k) (p .1 .1) (a .n) (d .fits .n .fits) _
+    (key-read (a .how) (a .x .now) (a .k) (a .n) _ (b .before .receiver-key .ensures))
 
 pub receiver-line-spec : {M : Type 1} → statement M
 receiver-line-spec =

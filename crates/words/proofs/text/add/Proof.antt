@@ -36,11 +36,17 @@ loop-less c = search needs
 
 loop-again : tie.Need-loop-again Inv-loop μ-loop
 loop-again c =
-    let at = c .before .before .before .before .before .before .loop in
-    let a = c .before .before .before .before .before .before .before .before .before .args in
+    let b = c .before .before .before .before .before .before in
+    let at = b .loop in
+    let a = b .before .before .before .args in
     let call = c .before .before .byte in
-    let h : at .i < length (a .p .now) = omega arith in
-    (omega arith, (adds-more (a .out .now) (at .out) (call .last .1 .0) (a .p .now) (a .n) (at .i) (call .result) h (at .inv .1 .0) (call .ensures), call .kept .1 .0 ∙ at .inv .1 .1))
+    let h : at .i < length (a .p .now) = omega arith in (
+      omega arith,
+      (
+        adds-more (a .out .now) (at .out) (call .last .1 .0) (a .p .now) (a .n) (at .i) (call .result) h (at .inv .1 .0) (call .ensures),
+        call .kept .1 .0 ∙ at .inv .1 .1,
+      ),
+    )
 
 add-result : tie.Need-add-result Inv-loop μ-loop
 add-result c = search needs
