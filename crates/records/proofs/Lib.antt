@@ -5,4 +5,5 @@ pub mod Reaches
 pub mod Six
 pub mod Values
 pub mod Five
+pub mod Back
 pub mod One

@@ -1,5 +1,5 @@
--- The contracts of this crate leave one outcome: any two results that meet one of them are the same. That of `row_at` fixes the
--- paper's row, and not how a kind of field is kept; those of `straight` say only what follows where they are true.
+-- The contracts of this crate leave one outcome: any two results that meet one of them are the same. Those of `straight` say only
+-- what follows where they are true.
 use mathlib.Core.Path.{_≡_, refl, sym, _∙_}
 use Rattle.rules.specs.Relations.{Reach as PaperReach}
 use Rattle.outcome.specs.One.{One}
@@ -43,6 +43,9 @@ use Rattle.records.proofs.relation.relation_of as relation-of
 use Rattle.records.proofs.relation.relation_of.Reads as relation-of-reads
 use Rattle.records.proofs.table.row_count as row-count
 use Rattle.records.proofs.table.row_count.Reads as row-count-reads
+use Rattle.records.proofs.table.row_at as row-at
+use Rattle.records.proofs.table.row_at.Reads as row-at-reads
+use Rattle.records.proofs.Back.{row-one}
 use Rattle.records.proofs.Reaches.{one-value}
 use Rattle.lines.proofs.One.{verdict-one}
 
@@ -75,6 +78,9 @@ relation-of-one κs a v v′ w w′ p p′ = (p ∙ sym p′, refl)
 
 pub row-count-one : One row-count.ended row-count-reads.Post
 row-count-one κs a v v′ w w′ p p′ = (p ∙ sym p′, refl)
+
+pub row-at-one : One row-at.ended row-at-reads.Post
+row-at-one κs a v v′ w w′ p p′ = (row-one v v′ (p .0 ∙ sym (p′ .0)), refl)
 
 -- what is promised of every reach of the paper that a value codes
 pub traces-one : One traces.ended traces-reads.Post
