@@ -58,8 +58,6 @@ use Rattle.fields.proofs.names.name as name
 use Rattle.fields.proofs.names.name.Reads as name-reads
 use Rattle.fields.proofs.names.same_name as same-name
 use Rattle.fields.proofs.names.same_name.Reads as same-name-reads
-use Rattle.fields.proofs.names.less_name as less-name
-use Rattle.fields.proofs.names.less_name.Reads as less-name-reads
 use Rattle.fields.proofs.fits as fits
 use Rattle.fields.proofs.fits.Reads as fits-reads
 use Rattle.fields.specs.Paper.{number}
@@ -160,9 +158,6 @@ name-one κs a v v′ w w′ p p′ = (p ∙ sym p′, refl)
 
 pub same-name-one : One same-name.ended same-name-reads.Post
 same-name-one κs a v v′ w w′ p p′ = (p ∙ sym p′, refl)
-
-pub less-name-one : One less-name.ended less-name-reads.Post
-less-name-one κs a v v′ w w′ p p′ = (p ∙ sym p′, refl)
 
 pub fits-one : One fits.ended fits-reads.Post
 fits-one κs a v v′ w w′ p p′ = (p ∙ sym p′, refl)

@@ -1,7 +1,7 @@
 -- Names and tapes as numbers to the base 256: equal where all their columns are, and in the order of their bytes.
 --   Alike xs ys   = two texts of one length, of bytes
 --   packed-same   = their numbers are equal where they are, and packed-less = less where they are
---   names-same    = so what `same_name` answers of two names is `sameName`, and names-less = `less_name`, `lessName`
+--   names-same    = so what `same_name` answers of two names is `sameName`, and names-less = their numbers' order is `lessName`
 use Prim.Native.Nat.{ℕ, zero, suc, _+_, _-_, _*_, _≤_, _<_}
 use native.Mathlib.Omega.{arith}
 use mathlib.Core.Path.{_≡_, refl, ap, ap₂, _∙_}

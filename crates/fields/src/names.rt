@@ -1,8 +1,8 @@
 // Names and tapes as numbers: all columns count, and the numbers compare as the bytes do.
 ghost use mathlib.Core.Path.{_≡_};
-ghost use mathlib.Core.Bool.{_&&_, _||_};
+ghost use mathlib.Core.Bool.{_&&_};
 ghost use Prim.Native.Nat.{ℕ, _+_, _≤_, _<_};
-ghost use lib.Dec.{eqb, ltb};
+ghost use lib.Dec.{eqb};
 ghost use Rattle.rules.specs.Text.{cols};
 ghost use Rattle.rules.specs.Names.{text};
 ghost use Rattle.fields.specs.Packed.{packed, nameOf};
@@ -47,16 +47,4 @@ pub fn same_name(m: Name, n: Name) -> bool
         return false;
     }
     m.lo == n.lo
-}
-
-pub fn less_name(m: Name, n: Name) -> bool
-    ensures value { λ t. ⌜ t ≡ (ltb (m .hi) (n .hi) || (eqb (m .hi) (n .hi) && ltb (m .lo) (n .lo))) ⌝ }
-{
-    if m.hi < n.hi {
-        return true;
-    }
-    if m.hi != n.hi {
-        return false;
-    }
-    m.lo < n.lo
 }
