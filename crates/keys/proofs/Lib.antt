@@ -6,5 +6,6 @@ pub mod Pairs
 pub mod Named
 pub mod Points
 pub mod Records
+pub mod Held
 pub mod Fit
 pub mod One

@@ -7,6 +7,8 @@ use Rattle.keys.proofs.key_of as key-of
 use Rattle.keys.proofs.key_of.Reads as key-of-reads
 use Rattle.keys.proofs.is_at as is-at
 use Rattle.keys.proofs.is_at.Reads as is-at-reads
+use Rattle.keys.proofs.holds as holds
+use Rattle.keys.proofs.holds.Reads as holds-reads
 use Rattle.keys.proofs.same as same
 use Rattle.keys.proofs.same.Reads as same-reads
 use Rattle.keys.proofs.below as below
@@ -34,6 +36,9 @@ key-of-one κs a v v′ w w′ p p′ = (p ∙ sym p′, refl)
 
 pub is-at-one : One is-at.ended is-at-reads.Post
 is-at-one κs a v v′ w w′ p p′ = (p ∙ sym p′, refl)
+
+pub holds-one : One holds.ended holds-reads.Post
+holds-one κs a v v′ w w′ p p′ = (p ∙ sym p′, refl)
 
 pub same-one : One same.ended same-reads.Post
 same-one κs a v v′ w w′ p p′ = (p ∙ sym p′, refl)

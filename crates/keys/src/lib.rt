@@ -6,7 +6,7 @@ ghost use Rattle.rules.specs.Layout.{sps93};
 ghost use Rattle.lines.specs.Reading.{sheetOf};
 ghost use Rattle.keys.specs.Keys.{lineAt, shotKey, receiverKey};
 ghost use Rattle.keys.specs.Compare.{sameKey, lessOr};
-ghost use Rattle.keys.specs.Keyed.{takesIn, keysIn};
+ghost use Rattle.keys.specs.Keyed.{takesIn, keysIn, holdsKey};
 use fields::figures;
 use fields::names;
 use lines::Reading;
@@ -84,6 +84,16 @@ pub fn is_at(z: Keyed, f: &[u8], k: usize, y: Key) -> bool
         return false;
     }
     parts::third(by, &l) == y.third
+}
+
+// Line k is one that has a key, and has the key y.
+pub fn holds(z: Keyed, f: &[u8], k: usize, y: Key) -> bool
+    ensures value { λ t. ⌜ t ≡ holdsKey (z .by) (sheetOf (z .how) (now (f .entry))) y k ⌝ }
+{
+    if !is_at(z, f, k, y) {
+        return false;
+    }
+    takes(z, f, k)
 }
 
 // Lines j and k have one key.

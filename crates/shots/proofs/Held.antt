@@ -1,7 +1,5 @@
 -- Whether a line holds a shot, or names one, by its key.
---   other-key, own-key  = what the code finds of a key, and of a shot
---   held-at             = the same, as the code has the key
---   key-shot            = a line of S with the key of relation line k's shot holds that shot
+--   key-shot            = a line of S with the key of relation line k's shot holds that shot; held-at = the same, as the code has the key
 use Prim.Native.Nat.{ℕ, _≤_, _<_}
 use native.Mathlib.Omega.{arith}
 use lib.Dec.{eqb}
@@ -23,51 +21,27 @@ use Rattle.form.specs.Known.{Known}
 use Rattle.keys.specs.Held.{RelationLine, KnownShots}
 use Rattle.keys.specs.Compare.{sameKey}
 use Rattle.keys.specs.Keys.{shotKey}
-use Rattle.keys.specs.Keyed.{takesAt, keyAt}
+use Rattle.keys.specs.Keyed.{keyAt, holdsKey}
 use Rattle.keys.specs.declared.By.the-variants.{Points}
 use Rattle.keys.specs.declared.Key.{Key}
 use Rattle.keys.proofs.Lines.{takes-point}
+use Rattle.keys.proofs.Held.{holds-point}
 use Rattle.keys.proofs.Points.{shot-is}
-use Rattle.shots.specs.Places.{isShot, holdsKey, namesKey}
-
-module _ (s : Sheet) (y : Key) (j : ℕ) (t : Bool) (e : t ≡ sameKey (keyAt Points s j) y) where
-  pub other-key : t ≡ false → false ≡ holdsKey s y j
-  unfolding holdsKey
-  other-key n = rw (← e, n)
-
-  pub own-key : t ≡ true → (b : Bool) → b ≡ takesAt Points s j → b ≡ holdsKey s y j
-  unfolding holdsKey
-  own-key z b f = rw (← e, z) f
-
-and-no : (a : Bool) → (a && false) ≡ false
-and-no true = refl
-and-no false = refl
-
-and-yes : (a : Bool) → (a && true) ≡ a
-and-yes true = refl
-and-yes false = refl
+use Rattle.shots.specs.Places.{isShot, namesKey}
 
 module _ (s x : Sheet) (ws : Known 2 s) (wx : Known 3 x) (k : ℕ) (h : k < x .count) (d : isData x k ≡ true) (j : ℕ) (g : j < s .count) where
-  abbrev sameOne : Bool
-  sameOne = sameKey (keyAt Points s j) (shotKey (x .layout) (x .row k))
-
-  pub key-shot : holdsKey s (shotKey (x .layout) (x .row k)) j ≡ isShot s x k j
-  unfolding holdsKey isShot isPointAt
-  key-shot = rw (takes-point s j g) (go (isPoint s j) refl)
+  pub key-shot : holdsKey Points s (shotKey (x .layout) (x .row k)) j ≡ isShot s x k j
+  unfolding isShot isPointAt
+  key-shot = holds-point Points s _ j (isPoint s j) _ (takes-point s j g) (λ p. shot-is 2 s ws two j g p x wx k h d)
     where
-      go : (t : Bool) → isPoint s j ≡ t
-          → (sameOne && t) ≡ (t && isAt (relationAt x k .source) (relationAt x k .shot) (relationAt x k .shotIndex) (pointAt s j))
-      go true p = and-yes sameOne ∙ shot-is 2 s ws two j g p x wx k h d
-        where
-          two : _≡_ {A = ℕ} 2 3 → ⊥
-          two e = absurd (omega arith)
-      go false p = and-no sameOne
+      two : _≡_ {A = ℕ} 2 3 → ⊥
+      two e = absurd (omega arith)
 
 pub held-at : (how : Reading) (s x : List ℕ) → Known 2 (sheetOf how s) → Known 3 (sheetOf how x) → (k : ℕ) → RelationLine (sheetOf how x) k
     → (y : Key) → y ≡ shotKey sps93 (sheetOf how x .row k) → (j : ℕ) → j < sheetOf how s .count
-    → holdsKey (sheetOf how s) y j ≡ isShot (sheetOf how s) (sheetOf how x) k j
+    → holdsKey Points (sheetOf how s) y j ≡ isShot (sheetOf how s) (sheetOf how x) k j
 held-at how s x ws wx k r y e j g =
-    ap (λ (y : Key). holdsKey (sheetOf how s) y j)
+    ap (λ (y : Key). holdsKey Points (sheetOf how s) y j)
     (e ∙ ap (λ (L : Layout). shotKey L (sheetOf how x .row k)) (sym (layout-is how x)))
     ∙ key-shot (sheetOf how s) (sheetOf how x) ws wx k (r .0) (r .1) j g
 

@@ -1,6 +1,6 @@
 -- Where the shots of relation lines stand in S.
 --   isShot s x k j      = line j of S holds the shot of relation line k
---   holdsKey s y j      = line j of S is a shot with the key y; namesKey x y i = the shot of line i of X has it
+--   namesKey x y i      = the shot of line i of X has the key y
 --   onward s x k from   = the first line from `from` on that holds the shot of line k; the number of lines where none does
 --   placeBefore s x k   = the line of the shot of the line just before line k, where that is a relation line; else 0
 --   shotFound s x k     = 13, then 14
@@ -22,16 +22,11 @@ use Rattle.rules.specs.Order.{isPointAt, shotLine, rule13, rule14, rule15}
 use Rattle.form.specs.Known.{Known}
 use Rattle.keys.specs.Compare.{sameKey}
 use Rattle.keys.specs.Keys.{shotKey}
-use Rattle.keys.specs.Keyed.{takesAt, keyAt}
 use Rattle.keys.specs.Held.{RelationLine, KnownShots}
-use Rattle.keys.specs.declared.By.the-variants.{Points}
 use Rattle.keys.specs.declared.Key.{Key}
 
 unfoldable pub isShot : Sheet → Sheet → ℕ → ℕ → Bool
 isShot s x k j = let v = relationAt x k in isPointAt s (v .source) (v .shot) (v .shotIndex) j
-
-unfoldable pub holdsKey : Sheet → Key → ℕ → Bool
-holdsKey s y j = sameKey (keyAt Points s j) y && takesAt Points s j
 
 unfoldable pub namesKey : Sheet → Key → ℕ → Bool
 namesKey x y i = sameKey (shotKey (x .layout) (x .row i)) y

@@ -7,26 +7,12 @@ ghost use Rattle.lines.specs.Paper.{paper};
 ghost use Rattle.lines.specs.Reading.{sheetOf};
 ghost use Rattle.form.specs.Known.{Known};
 ghost use Rattle.keys.specs.Held.{RelationLine};
-ghost use Rattle.shots.specs.Places.{holdsKey, namesKey, shotFound, onward as onwardOf, Missed, Ordered, pastOf, allNamed};
+ghost use Rattle.shots.specs.Places.{namesKey, shotFound, onward as onwardOf, Missed, Ordered, pastOf, allNamed};
 use keys::By;
 use keys::Key;
 use keys::Keyed;
 use lines::Reading;
 use lines::Verdict;
-
-// Line j of S is a shot with the key y.
-fn holds(how: Reading, s: &[u8], j: usize, y: Key) -> bool
-    ensures value { λ t. ⌜ t ≡ holdsKey (sheetOf how (now (s .entry))) y j ⌝ }
-{
-    let z = Keyed {
-        how,
-        by: By::Points,
-    };
-    if !keys::is_at(z, s, j, y) {
-        return false;
-    }
-    keys::takes(z, s, j)
-}
 
 // The first line of S from `from` on that holds the shot of relation line k, or the number of lines.
 pub fn onward(how: Reading, s: &[u8], x: &[u8], k: usize, from: usize) -> usize
@@ -34,10 +20,14 @@ pub fn onward(how: Reading, s: &[u8], x: &[u8], k: usize, from: usize) -> usize
     ensures value { λ j. ⌜ j ≡ onwardOf (sheetOf how (now (s .entry))) (sheetOf how (now (x .entry))) k from ⌝ }
 {
     let y = keys::shot_key(how, x, k);
+    let z = Keyed {
+        how,
+        by: By::Points,
+    };
     let n = lines::line_count(how, s);
     let mut j = from;
     while j < n {
-        if holds(how, s, j, y) {
+        if keys::holds(z, s, j, y) {
             return j;
         }
         j += 1;

@@ -1,6 +1,6 @@
 -- Lines of X and of R, by what the code finds in them.
 --   passes-off, passes-on = a line of the record that passes a test, or not; walk-of = the first of them is the search's
---   holds-off             = no receiver; line-of-key = the first line with a receiver's key is the receiver's
+--   line-of-key           = the first line with a receiver's key is the receiver's
 use Prim.Native.Nat.{ℕ, zero, suc, _≤_, _<_}
 use native.Mathlib.Omega.{arith}
 use mathlib.Core.Path.{_≡_, refl, sym, ap, _∙_}
@@ -22,15 +22,16 @@ use Rattle.form.specs.Known.{Known}
 use Rattle.keys.specs.Held.{RelationLine}
 use Rattle.keys.specs.Compare.{sameKey}
 use Rattle.keys.specs.Keys.{receiverKey}
-use Rattle.keys.specs.Keyed.{takesAt, keyAt}
+use Rattle.keys.specs.Keyed.{keyAt, holdsKey}
 use Rattle.keys.specs.declared.By.the-variants.{Receivers}
 use Rattle.keys.specs.declared.Key.{Key}
 use Rattle.keys.proofs.Lines.{takes-receiver}
+use Rattle.keys.proofs.Held.{holds-point}
 use Rattle.keys.proofs.Points.{receiver-is}
 use Rattle.spread.specs.Asked.{Asked, wantedOf, isOf}
 use Rattle.spread.specs.declared.wanted.Wanted.{Wanted}
 use Rattle.spread.proofs.Asked.{is-of}
-use Rattle.traces.specs.Steps.{passes, holdsKey}
+use Rattle.traces.specs.Steps.{passes}
 
 least-same : (n : ℕ) (p q : ℕ → Bool) → ((j : ℕ) → j < n → p j ≡ q j) → least n p ≡ least n q
 unfolding least
@@ -68,16 +69,6 @@ walk-of x known t n asked w e p =
     ap (λ (b : Bool). b && p (reachAt x k)) (ap (λ (v : Wanted). isOf x v k) e ∙ is-of x known t n asked k h)
     ∙ and-assoc (isData x k) (ofRecord t n (reachAt x k)) (p (reachAt x k)))
 
--- line j of R, against a key
-module _ (r : Sheet) (y : Key) (j : ℕ) (b : Bool) (e : b ≡ takesAt Receivers r j) where
-  pub holds-off : b ≡ false → false ≡ holdsKey r y j
-  unfolding holdsKey
-  holds-off z = rw (← e, z)
-
-  pub holds-on : b ≡ true → (d : Bool) → d ≡ sameKey (keyAt Receivers r j) y → d ≡ holdsKey r y j
-  unfolding holdsKey
-  holds-on z d q = rw (← e, z) q
-
 -- a key as the code has it
 pub key-read : (how : Reading) (x : List ℕ) (k n : ℕ) (y : Key) → y ≡ receiverKey sps93 (sheetOf how x .row k) n
     → y ≡ receiverKey (sheetOf how x .layout) (sheetOf how x .row k) n
@@ -88,17 +79,12 @@ module _ (r x : Sheet) (wr : Known 1 r) (wx : Known 3 x) (k : ℕ) (h : Relation
   not-x : 1 ≡ fileX → ⊥
   not-x z = omega arith
 
-  key-holds : (j : ℕ) → j < r .count → holdsKey r y j ≡ isPointAt r (reachAt x k .receiver) n (reachAt x k .receiverIndex) j
-  unfolding holdsKey isPointAt
+  key-holds : (j : ℕ) → j < r .count → holdsKey Receivers r y j ≡ isPointAt r (reachAt x k .receiver) n (reachAt x k .receiverIndex) j
+  unfolding isPointAt
   key-holds j g =
-      ap (λ (b : Bool). b && sameKey (keyAt Receivers r j) y) (takes-receiver r j g)
-      ∙ go (isPoint r j) (λ p. ap (sameKey (keyAt Receivers r j)) e ∙ receiver-is 1 r wr not-x j g p x wx k (h .0) (h .1) n few)
-    where
-      go : (b : Bool) → (b ≡ true → sameKey (keyAt Receivers r j) y ≡ isAt (reachAt x k .receiver) n (reachAt x k .receiverIndex) (pointAt r j))
-          → (b && sameKey (keyAt Receivers r j) y) ≡ (b && isAt (reachAt x k .receiver) n (reachAt x k .receiverIndex) (pointAt r j))
-      go true f = f refl
-      go false f = refl
+      holds-point Receivers r y j (isPoint r j) _ (takes-receiver r j g)
+      (λ p. ap (sameKey (keyAt Receivers r j)) e ∙ receiver-is 1 r wr not-x j g p x wx k (h .0) (h .1) n few)
 
-  pub line-of-key : least (r .count) (holdsKey r y) ≡ receiverLine r (reachAt x k) n
+  pub line-of-key : least (r .count) (holdsKey Receivers r y) ≡ receiverLine r (reachAt x k) n
   unfolding receiverLine lineOfPoint
   line-of-key = least-same (r .count) _ _ key-holds

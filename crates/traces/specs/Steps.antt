@@ -1,7 +1,6 @@
 -- The steps of a question on a set.
 --   passes x w p k    = line k of X is a relation line of that tape and record, and passes the test p
 --   tracedOn r q c    = what channel c leads to by a relation line that carries it
---   holdsKey r y j    = line j of R is a receiver, and has the key y
 --   ReceiverLine r i  = R is well formed, and its line i is a receiver
 use Prim.Native.Nat.{ℕ, _+_, _<_}
 use mathlib.Core.Path.{_≡_}
@@ -13,10 +12,6 @@ use Rattle.rules.specs.Cover.{leads, component}
 use Rattle.rules.specs.Order.{receiverLine}
 use Rattle.rules.specs.Check.{Answer, trace}
 use Rattle.form.specs.Known.{Known}
-use Rattle.keys.specs.Compare.{sameKey}
-use Rattle.keys.specs.Keyed.{takesAt, keyAt}
-use Rattle.keys.specs.declared.By.the-variants.{Receivers}
-use Rattle.keys.specs.declared.Key.{Key}
 use Rattle.spread.specs.Asked.{isOf}
 use Rattle.spread.specs.declared.wanted.Wanted.{Wanted}
 
@@ -25,9 +20,6 @@ passes x w p k = isOf x w k && p (reachAt x k)
 
 unfoldable pub tracedOn : Sheet → Reach → ℕ → Answer
 tracedOn r q c = trace (receiverLine r q (leads q c) + 1) (component q c)
-
-unfoldable pub holdsKey : Sheet → Key → ℕ → Bool
-holdsKey r y j = takesAt Receivers r j && sameKey (keyAt Receivers r j) y
 
 abbrev pub ReceiverLine : Sheet → ℕ → Type 0
 ReceiverLine r i = Known 1 r × ((i < r .count) × (isPoint r i ≡ true))

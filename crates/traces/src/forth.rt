@@ -9,9 +9,8 @@ ghost use Rattle.lines.specs.Reading.{sheetOf};
 ghost use Rattle.form.specs.Known.{Known};
 ghost use Rattle.keys.specs.Held.{RelationLine};
 ghost use Rattle.spread.specs.Asked.{Asked};
-ghost use Rattle.traces.specs.Steps.{passes, holdsKey};
+ghost use Rattle.traces.specs.Steps.{passes};
 use keys::By;
-use keys::Key;
 use keys::Keyed;
 use lines::Reading;
 use records::cover;
@@ -47,30 +46,20 @@ pub fn carrier(how: Reading, x: &[u8], tape: &[u8], record: u64, channel: u64) -
     count
 }
 
-// Line j of R is a receiver with the key y.
-fn holds(how: Reading, r: &[u8], j: usize, y: Key) -> bool
-    ensures value { λ b. ⌜ b ≡ holdsKey (sheetOf how (now (r .entry))) y j ⌝ }
-{
-    let z = Keyed {
-        how,
-        by: By::Receivers,
-    };
-    if !keys::takes(z, r, j) {
-        return false;
-    }
-    keys::is_at(z, r, j, y)
-}
-
 // The line of receiver number n of relation line k, or the number of lines.
 pub fn receiver_line(how: Reading, r: &[u8], x: &[u8], k: usize, n: u32) -> usize
     requires { ⌜ Known 1 (sheetOf how (now r)) × (Known 3 (sheetOf how (now x)) × RelationLine (sheetOf how (now x)) k) ⌝ }
     ensures value { λ j. ⌜ j ≡ receiverLine (sheetOf how (now (r .entry))) (reachAt (sheetOf how (now (x .entry))) k) n ⌝ }
 {
     let y = keys::receiver_key(how, x, k, n);
+    let z = Keyed {
+        how,
+        by: By::Receivers,
+    };
     let count = lines::line_count(how, r);
     let mut j = 0;
     while j < count {
-        if holds(how, r, j, y) {
+        if keys::holds(z, r, j, y) {
             return j;
         }
         j += 1;

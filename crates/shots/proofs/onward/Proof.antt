@@ -15,14 +15,13 @@ use Rattle.shots.proofs.onward.Reads as reads
 use Rattle.shots.proofs.onward.Lts as lts
 use Rattle.keys.proofs.shot_key.Reads as shot-key-reads
 use Rattle.lines.proofs.line_count.Reads as line-count-reads
-use Rattle.shots.proofs.holds.Reads as holds-reads
 
 abbrev Inv-loop : tie.InvT-loop
-Inv-loop how s x k from y n j₀ j =
-    (from ≤ j) × ((i : ℕ) → from ≤ i → i < j → isShot (sheetOf how s) (sheetOf how x) k i ≡ true → ⊥)
+Inv-loop s x k from y z n j₀ j =
+    (from ≤ j) × ((i : ℕ) → from ≤ i → i < j → isShot (sheetOf (z .how) s) (sheetOf (z .how) x) k i ≡ true → ⊥)
 
 abbrev μ-loop : tie.MeasureT-loop
-μ-loop how s x k from y n j₀ j = n - j
+μ-loop s x k from y z n j₀ j = n - j
 
 shot-key-requires : tie.Need-shot-key-requires Inv-loop μ-loop
 shot-key-requires c κs = c .before .before .pre .1 .0

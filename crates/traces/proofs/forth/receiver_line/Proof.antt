@@ -4,7 +4,8 @@ use Rattle.lines.specs.Reading.{sheetOf}
 use Rattle.rules.proofs.Steps.{least-more, least-none-yet, least-stop}
 use Rattle.rules.specs.Places.{least}
 use Rattle.traces.proofs.Lines.{key-read, line-of-key}
-use Rattle.traces.specs.Steps.{holdsKey}
+use Rattle.keys.specs.Keyed.{holdsKey}
+use Rattle.keys.specs.declared.By.the-variants.{Receivers}
 use borrow.Author.Needs.{needs}
 use mathlib.Core.Path.{_∙_, _≡_, ap, sym}
 use native.Mathlib.Omega.{arith}
@@ -12,11 +13,11 @@ use Rattle.traces.proofs.forth.receiver_line.Statement.{statement}
 use Rattle.traces.proofs.forth.receiver_line.Tie as tie
 
 abbrev Inv-loop : tie.InvT-loop
-Inv-loop how r x k n y count j₀ j =
-    (j ≤ count) × (least j (holdsKey (sheetOf how r) y) ≡ j)
+Inv-loop r x k n y z count j₀ j =
+    (j ≤ count) × (least j (holdsKey Receivers (sheetOf (z .how) r) y) ≡ j)
 
 abbrev μ-loop : tie.MeasureT-loop
-μ-loop how r x k n y count j₀ j = count - j
+μ-loop r x k n y z count j₀ j = count - j
 
 receiver-key-requires : tie.Need-receiver-key-requires Inv-loop μ-loop
 receiver-key-requires c κs = c .before .before .pre .1 .1 .0
@@ -64,7 +65,7 @@ returns-2 c =
     let y = c .loop-test .left in
     let z : b .line-count .result ≡ at .j = omega arith in
     let u : at .j ≡ R .count = omega arith in
-    z ∙ sym (at .inv .1) ∙ ap (λ (i : ℕ). least i (holdsKey R (b .before .receiver-key .result))) u
+    z ∙ sym (at .inv .1) ∙ ap (λ (i : ℕ). least i (holdsKey Receivers R (b .before .receiver-key .result))) u
     ∙ line-of-key R (sheetOf (a .how) (a .x .now)) (p .0) (p .1 .0) (a .k) (p .1 .1) (a .n) (d .fits .n .fits) _
     (key-read (a .how) (a .x .now) (a .k) (a .n) _ (b .before .receiver-key .ensures))
 
