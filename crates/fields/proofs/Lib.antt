@@ -3,6 +3,7 @@ pub mod Justified
 pub mod Signs
 pub mod Codes
 pub mod Widths
+pub mod Pairs
 pub mod Packed
 pub mod Texts
 pub mod LowHalves

@@ -4,16 +4,16 @@
 --   names-same    = so what `same_name` answers of two names is `sameName`, and names-less = their numbers' order is `lessName`
 use Prim.Native.Nat.{ℕ, zero, suc, _+_, _-_, _*_, _≤_, _<_}
 use native.Mathlib.Omega.{arith}
-use mathlib.Core.Path.{_≡_, refl, ap, ap₂, _∙_}
-use mathlib.Core.Bool.{Bool, true, false, _&&_, _||_}
+use mathlib.Core.Path.{_≡_, refl, sym, ap, ap₂, _∙_}
+use mathlib.Core.Bool.{Bool, _&&_, _||_, and-true, and-assoc}
 use mathlib.Core.List.{List, [], _∷_}
 use lib.Dec.{eqb, ltb}
 use lib.ListN.{take, drop}
-use borrow.Author.Tests.{eq-eqb, ne-eqb, eqb-true, eqb-false, lt-ltb, le-ltb, ltb-true, ltb-false}
 use Rattle.rules.specs.Text.{cols, same, less}
 use Rattle.rules.specs.Names.{text, ranked, sameName, lessName}
 use Rattle.rules.proofs.Columns.{cols-take, cols-drop}
 use Rattle.fields.specs.Packed.{packedAfter, packed, nameOf}
+use Rattle.fields.proofs.Pairs.{pair-same, pair-less, first-by, or-never}
 
 module _ (l : List ℕ) (a : ℕ) (o : 1 ≤ a) where
   pub name-hi : take 8 (cols l a (a + 15)) ≡ cols l a (a + 7)
@@ -28,74 +28,16 @@ Alike [] (y ∷ ys) = ⊥
 Alike (x ∷ xs) [] = ⊥
 Alike (x ∷ xs) (y ∷ ys) = ((x < 256) × (y < 256)) × Alike xs ys
 
--- by A; where even (E), by a; where even (e), by L
-first-by : (A E a e L : Bool) → ((A || (E && a)) || ((E && e) && L)) ≡ (A || (E && (a || (e && L))))
-first-by true E a e L = refl
-first-by false false a e L = refl
-first-by false true true e L = refl
-first-by false true false e L = refl
-
-and-and : (a b c : Bool) → ((a && b) && c) ≡ (a && (b && c))
-and-and true b c = refl
-and-and false b c = refl
-
-and-true : (a : Bool) → a ≡ (a && true)
-and-true true = refl
-and-true false = refl
-
-or-never : (a b : Bool) → a ≡ (a || (b && false))
-or-never true b = refl
-or-never false true = refl
-or-never false false = refl
-
--- one more digit
-module _ (v w x y : ℕ) (h : x < 256) (k : y < 256) where
-  even : 256 * v + x ≡ 256 * w + y → v ≡ w
-  even e = omega arith
-
-  digit-same : eqb (256 * v + x) (256 * w + y) ≡ (eqb v w && eqb x y)
-  digit-same = go (eqb v w) (eqb x y) refl refl
-    where
-      go : (b c : Bool) → eqb v w ≡ b → eqb x y ≡ c → eqb (256 * v + x) (256 * w + y) ≡ (b && c)
-      go true true e f =
-          let p = eqb-true v w e in
-          let q = eqb-true x y f in
-          eq-eqb (256 * v + x) (256 * w + y) (omega arith)
-      go true false e f =
-          let p = eqb-true v w e in
-          ne-eqb (256 * v + x) (256 * w + y) (λ z. eqb-false x y f (omega arith))
-      go false c e f = ne-eqb (256 * v + x) (256 * w + y) (λ z. eqb-false v w e (even z))
-
-  digit-less : ltb (256 * v + x) (256 * w + y) ≡ (ltb v w || (eqb v w && ltb x y))
-  digit-less = go (ltb v w) (eqb v w) (ltb x y) refl refl refl
-    where
-      go : (a b c : Bool) → ltb v w ≡ a → eqb v w ≡ b → ltb x y ≡ c → ltb (256 * v + x) (256 * w + y) ≡ (a || (b && c))
-      go true b c d e f =
-          let p = ltb-true v w d in
-          lt-ltb (256 * v + x) (256 * w + y) (omega arith)
-      go false true true d e f =
-          let p = eqb-true v w e in
-          let q = ltb-true x y f in
-          lt-ltb (256 * v + x) (256 * w + y) (omega arith)
-      go false true false d e f =
-          let p = eqb-true v w e in
-          let q = ltb-false x y f in
-          le-ltb (256 * v + x) (256 * w + y) (omega arith)
-      go false false c d e f =
-          let p = ltb-false v w d in
-          let n = eqb-false v w e in
-          le-ltb (256 * v + x) (256 * w + y) (omega arith)
-
 -- all digits
 pub packed-same : (v w : ℕ) (xs ys : List ℕ) → Alike xs ys → eqb (packedAfter v xs) (packedAfter w ys) ≡ (eqb v w && same xs ys)
 unfolding packedAfter same
-packed-same v w [] [] a = and-true (eqb v w)
+packed-same v w [] [] a = sym (and-true (eqb v w))
 packed-same v w [] (y ∷ ys) a = absurd a
 packed-same v w (x ∷ xs) [] a = absurd a
 packed-same v w (x ∷ xs) (y ∷ ys) a =
     packed-same (256 * v + x) (256 * w + y) xs ys (a .1)
-    ∙ ap (λ (b : Bool). b && same xs ys) (digit-same v w x y (a .0 .0) (a .0 .1))
-    ∙ and-and (eqb v w) (eqb x y) (same xs ys)
+    ∙ ap (λ (b : Bool). b && same xs ys) (pair-same 256 v x w y (a .0 .0) (a .0 .1))
+    ∙ and-assoc (eqb v w) (eqb x y) (same xs ys)
 
 pub packed-less : (v w : ℕ) (xs ys : List ℕ) → Alike xs ys
     → ltb (packedAfter v xs) (packedAfter w ys) ≡ (ltb v w || (eqb v w && less xs ys))
@@ -105,7 +47,7 @@ packed-less v w [] (y ∷ ys) a = absurd a
 packed-less v w (x ∷ xs) [] a = absurd a
 packed-less v w (x ∷ xs) (y ∷ ys) a =
     packed-less (256 * v + x) (256 * w + y) xs ys (a .1)
-    ∙ ap₂ (λ (b c : Bool). b || (c && less xs ys)) (digit-less v w x y (a .0 .0) (a .0 .1)) (digit-same v w x y (a .0 .0) (a .0 .1))
+    ∙ ap₂ (λ (b c : Bool). b || (c && less xs ys)) (pair-less 256 v x w y (a .0 .0) (a .0 .1)) (pair-same 256 v x w y (a .0 .0) (a .0 .1))
     ∙ first-by (ltb v w) (eqb v w) (ltb x y) (eqb x y) (less xs ys)
 
 -- the first n columns, then the others
@@ -130,7 +72,7 @@ same-parts (suc n) [] [] a = refl
 same-parts (suc n) [] (y ∷ ys) a = absurd a
 same-parts (suc n) (x ∷ xs) [] a = absurd a
 same-parts (suc n) (x ∷ xs) (y ∷ ys) a =
-    and-and (eqb x y) (same (take n xs) (take n ys)) (same (drop n xs) (drop n ys))
+    and-assoc (eqb x y) (same (take n xs) (take n ys)) (same (drop n xs) (drop n ys))
     ∙ ap (λ (b : Bool). eqb x y && b) (same-parts n xs ys (a .1))
 
 less-parts : (n : ℕ) (xs ys : List ℕ) → Alike xs ys

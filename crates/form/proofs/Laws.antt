@@ -2,7 +2,7 @@
 use Prim.Native.Nat.{ℕ, _+_, _≤_}
 use native.Mathlib.Numerals.{add-one}
 use mathlib.Core.Path.{_≡_, refl, sym, ap, ap₂, _∙_}
-use mathlib.Core.Bool.{Bool, true, false, not, _&&_}
+use mathlib.Core.Bool.{Bool, true, false, not, _&&_, and-false}
 use mathlib.Core.List.{List}
 use lib.ListN.{getD}
 use borrow.Author.Tests.{eq-eqb, ne-eqb, leb-true}
@@ -71,11 +71,7 @@ module _ (i k : ℕ) (h : Bool) (l : List ℕ) (t : Bool) (q : t ≡ isHeader l)
 module _ (L : Layout) (i k : ℕ) (l : List ℕ) where
   pub six-other : (i ≡ 3 → ⊥) → fine ≡ run (numbersOf L i k l)
   unfolding numbersOf
-  six-other n = when-off _ _ (rw (ne-eqb i 3 n) (never (not (isHeader l))))
-    where
-      never : (b : Bool) → b && false ≡ false
-      never true = refl
-      never false = refl
+  six-other n = when-off _ _ (rw (ne-eqb i 3 n) (and-false (not (isHeader l))))
 
   module _ (t : Bool) (q : t ≡ isHeader l) where
     pub six-header : t ≡ true → fine ≡ run (numbersOf L i k l)

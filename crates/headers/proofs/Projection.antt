@@ -3,7 +3,7 @@
 use Prim.Native.Nat.{ℕ, _+_, _-_, _≤_, _<_}
 use native.Mathlib.Omega.{arith}
 use mathlib.Core.Path.{_≡_, refl, sym, ap, ap₂, _∙_}
-use mathlib.Core.Bool.{Bool, true, false, not, _&&_}
+use mathlib.Core.Bool.{Bool, true, false, not, _&&_, and-false}
 use mathlib.Core.List.{List, [], _∷_}
 use lib.Dec.{eqb}
 use lib.ListN.{length, getD}
@@ -67,11 +67,7 @@ unfolding cut freedAfter same
 tail-short [] [] h = absurd (omega arith)
 tail-short [] (x ∷ xs) h = refl
 tail-short (b ∷ bs) [] h = absurd (omega arith)
-tail-short (b ∷ bs) (x ∷ xs) h = tail-other b x bs xs (rw (tail-short bs xs (omega arith)) (never (eqb b x)))
-  where
-    never : (t : Bool) → t && false ≡ false
-    never true = refl
-    never false = refl
+tail-short (b ∷ bs) (x ∷ xs) h = tail-other b x bs xs (rw (tail-short bs xs (omega arith)) (and-false (eqb b x)))
 
 -- a text that starts with no blank
 starts : (b : ℕ) (bs : List ℕ) → (b ≡ 32 → ⊥) → freedBefore (cut (b ∷ bs)) ≡ cut (b ∷ bs)

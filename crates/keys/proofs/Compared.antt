@@ -1,16 +1,12 @@
 -- Keys compared number by number, as the code does: what is known of the numbers of a so far decides, or the next one does.
 use Prim.Native.Nat.{ℕ}
 use native.Mathlib.Omega.{arith}
-use mathlib.Core.Path.{_≡_, refl}
-use mathlib.Core.Bool.{Bool, true, false, _||_}
+use mathlib.Core.Path.{_≡_, refl, sym}
+use mathlib.Core.Bool.{Bool, true, false, _||_, or-false}
 use lib.Dec.{eqb, ltb}
 use borrow.Author.Tests.{eq-eqb, ne-eqb, le-ltb}
 use Rattle.keys.specs.Compare.{sameKey, lessOr}
 use Rattle.keys.specs.declared.Key.{Key}
-
-or-no : (a : Bool) → a ≡ (a || false)
-or-no true = refl
-or-no false = refl
 
 -- equal numbers are not less
 even : (m n : ℕ) → m ≡ n → ltb m n ≡ false
@@ -23,7 +19,7 @@ module _ (a y : Key) (tie : Bool) (p : ℕ) (e : p ≡ a .first) where
 
   pub first-decides : (p ≡ y .first → ⊥) → ltb p (y .first) ≡ lessOr a y tie
   unfolding lessOr
-  first-decides n = rw (← e, ne-eqb p (y .first) n) (or-no (ltb p (y .first)))
+  first-decides n = rw (← e, ne-eqb p (y .first) n) (sym (or-false (ltb p (y .first))))
 
   module _ (h : p ≡ y .first) (q : ℕ) (f : q ≡ a .second) where
     pub second-other : (q ≡ y .second → ⊥) → false ≡ sameKey a y
@@ -33,7 +29,7 @@ module _ (a y : Key) (tie : Bool) (p : ℕ) (e : p ≡ a .first) where
     pub second-decides : (q ≡ y .second → ⊥) → ltb q (y .second) ≡ lessOr a y tie
     unfolding lessOr
     second-decides n =
-        rw (← e, even p (y .first) h, eq-eqb p (y .first) h, ← f, ne-eqb q (y .second) n) (or-no (ltb q (y .second)))
+        rw (← e, even p (y .first) h, eq-eqb p (y .first) h, ← f, ne-eqb q (y .second) n) (sym (or-false (ltb q (y .second))))
 
     module _ (i : q ≡ y .second) (r : ℕ) (g : r ≡ a .third) where
       pub third-same : eqb r (y .third) ≡ sameKey a y
@@ -53,7 +49,7 @@ module _ (a y : Key) (tie : Bool) (p : ℕ) (e : p ≡ a .first) where
             ← g,
             ne-eqb r (y .third) n,
           )
-          (or-no (ltb r (y .third)))
+          (sym (or-false (ltb r (y .third))))
 
       pub tied : r ≡ y .third → tie ≡ lessOr a y tie
       unfolding lessOr

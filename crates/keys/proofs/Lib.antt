@@ -2,7 +2,6 @@ pub mod Halves
 pub mod Compared
 pub mod Lines
 pub mod Passed
-pub mod Pairs
 pub mod Named
 pub mod Points
 pub mod Records

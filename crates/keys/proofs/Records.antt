@@ -1,7 +1,7 @@
 -- Relation lines of one key are of one tape and record.
 use Prim.Native.Nat.{ℕ, _<_}
 use mathlib.Core.Path.{_≡_, refl, ap, ap₂, _∙_}
-use mathlib.Core.Bool.{Bool, true, false, _&&_}
+use mathlib.Core.Bool.{Bool, true, false, _&&_, and-true}
 use mathlib.Core.List.{List}
 use lib.Dec.{eqb}
 use Rattle.rules.specs.Plan.{fileX}
@@ -21,10 +21,6 @@ use Rattle.keys.specs.declared.Key.{Key}
 use Rattle.keys.specs.declared.By.the-variants.{Records}
 use Rattle.keys.proofs.Lines.{key-below}
 use Rattle.keys.proofs.Passed.{record-read}
-
-and-true : (a : Bool) → (a && true) ≡ a
-and-true true = refl
-and-true false = refl
 
 -- the key of a tape and a record
 abbrev of-record : List ℕ → ℕ → Key

@@ -34,11 +34,6 @@ unfolding isBefore
 there-is-one p zero e = clash e
 there-is-one p (suc k) e = omega arith
 
-pub before-same : (p q : ℕ → Bool) (k : ℕ) → ((j : ℕ) → j < k → p j ≡ q j) → isBefore p k ≡ isBefore q k
-unfolding isBefore
-before-same p q zero f = refl
-before-same p q (suc k) f = f k (omega arith)
-
 -- what is asked of it where it passes p
 pub before-asked : (p q : ℕ → Bool) (k : ℕ) → isBefore p k ≡ true → ifBefore (λ j. not (p j) || q j) k ≡ q (k - 1)
 unfolding isBefore ifBefore

@@ -4,7 +4,7 @@ use Prim.Native.Nat.{ℕ, _+_, _-_, _≤_, _<_}
 use native.Mathlib.Omega.{arith}
 use mathlib.Core.Path.{_≡_, refl, sym, ap, ap₂, _∙_}
 use mathlib.Core.Logic.{⊎-elim}
-use mathlib.Core.Bool.{Bool, true, false, not, _&&_, _||_}
+use mathlib.Core.Bool.{Bool, true, false, not, _&&_, _||_, or-true, and-true}
 use mathlib.Core.List.{List}
 use lib.Dec.{ltb}
 use borrow.Author.Tests.{lt-ltb, le-ltb}
@@ -28,15 +28,8 @@ use Rattle.keys.specs.declared.By.the-variants.{Records}
 use Rattle.keys.proofs.Lines.{takes-record}
 use Rattle.order.specs.Repeat.{like, repeats}
 use Rattle.mates.specs.Records.{IsApart, goesOn}
-use Rattle.mates.proofs.Mates.{before-same, before-asked, before-passed, mates-are}
-
-or-true : (a : Bool) → (a || true) ≡ true
-or-true true = refl
-or-true false = refl
-
-and-true : (a : Bool) → (a && true) ≡ a
-and-true true = refl
-and-true false = refl
+use Rattle.lines.proofs.Tests.{before-same}
+use Rattle.mates.proofs.Mates.{before-asked, before-passed, mates-are}
 
 module _ (x : Sheet) (k : ℕ) where
   abbrev of-record : ℕ → Bool
@@ -101,7 +94,7 @@ module _ (x : Sheet) (k : ℕ) where
   module _ (w : Known 3 x) (h : RelationLine x k) (apart : ℕ) (a : IsApart x k apart) where
     like-before : isBefore (like Records x k) k ≡ goesOn x k
     unfolding goesOn
-    like-before = let g = h .0 in before-same _ _ k (λ j l. mates-are x w k h j (omega arith))
+    like-before = let g = h .0 in before-same k _ _ (λ j l. mates-are x w k h j (omega arith))
 
     repeated : repeats Records x k ≡ true → (some k (like Records x k) ≡ true) × (goesOn x k ≡ false)
     unfolding repeats

@@ -5,7 +5,7 @@ use Prim.Native.Nat.{ℕ, _+_, _≤_, _<_}
 use native.Mathlib.Numerals.{add-one}
 use native.Mathlib.Omega.{arith}
 use mathlib.Core.Path.{_≡_, refl, sym, ap, _∙_}
-use mathlib.Core.Bool.{Bool, true, false, _&&_, _||_}
+use mathlib.Core.Bool.{Bool, true, false, _&&_, _||_, and-false, or-true, or-false}
 use mathlib.Core.List.{List}
 use lib.Dec.{eqb, leb, ltb}
 use lib.ListN.{length}
@@ -17,10 +17,6 @@ use Rattle.order.specs.Sorted.{nth}
 use Rattle.once.specs.Covered.{covered, coveredIn, someMarked, Spanned}
 use Rattle.once.specs.Marks.{Below, Put, Marked}
 use Rattle.once.proofs.Spans.{within}
-
-no-and : (s : Bool) → (s && false) ≡ false
-no-and true = refl
-no-and false = refl
 
 -- the rows of line k are those from e on and before e + n
 module _ (r : Sheet) (o : List ℕ) (x : Sheet) (k e n : ℕ) (inside : e + n ≤ length o)
@@ -35,7 +31,7 @@ module _ (r : Sheet) (o : List ℕ) (x : Sheet) (k e n : ℕ) (inside : e + n �
       }
     where
       out : (i : ℕ) → length o ≤ i → pick (within e (e + n) i) v (nth t i) ≡ nth t i
-      out i h = rw (le-ltb i (e + n) (omega arith), no-and (leb e i))
+      out i h = rw (le-ltb i (e + n) (omega arith), and-false (leb e i))
 
   pub span-seen : (s : Bool) → s ≡ some (e + n) (λ i. leb e i && eqb (nth t i) v) → s ≡ someMarked r o x k t v
   unfolding someMarked
@@ -99,13 +95,5 @@ module _ (r : Sheet) (o : List ℕ) (x : Sheet) (a : ℕ) where
       small false n h = h
 
       marks : (b : Bool) (n : ℕ) → eqb (pick b (a + 1) n) (a + 1) ≡ (eqb n (a + 1) || b)
-      marks true n = eq-eqb (a + 1) (a + 1) refl ∙ sym (yes (eqb n (a + 1)))
-        where
-          yes : (s : Bool) → (s || true) ≡ true
-          yes true = refl
-          yes false = refl
-      marks false n = no (eqb n (a + 1))
-        where
-          no : (s : Bool) → s ≡ (s || false)
-          no true = refl
-          no false = refl
+      marks true n = eq-eqb (a + 1) (a + 1) refl ∙ sym (or-true (eqb n (a + 1)))
+      marks false n = sym (or-false (eqb n (a + 1)))

@@ -17,12 +17,8 @@ use Rattle.rules.specs.Reaches.{reachesOf, mates, once}
 use Rattle.rules.specs.Order.{rule19}
 use Rattle.rules.proofs.Tests.{every-is, imp-is}
 use Rattle.rules.proofs.Steps.{need-met, need-broken, every-more, every-stop}
+use Rattle.lines.proofs.Tests.{every-same}
 use Rattle.once.specs.Covered.{apart}
-
-every-same : (n : ℕ) (p q : ℕ → Bool) → ((j : ℕ) → j < n → p j ≡ q j) → every n p ≡ every n q
-unfolding every
-every-same zero p q e = refl
-every-same (suc n) p q e = ap₂ _&&_ (every-same n p q (λ j h. e j (omega arith))) (e n (lt-suc-self n))
 
 module _ (x : Sheet) (a k : ℕ) where
   pub once-is-apart : ((j : ℕ) → j < k → mates (reachesOf x) k j ≡ leb a j) → once (reachesOf x) k ≡ apart x a k

@@ -23,6 +23,7 @@ use Rattle.rules.specs.Places.{some, least, isBefore}
 use Rattle.rules.specs.Sheet.{Sheet}
 use Rattle.rules.proofs.Tests.{clash, and-is, some-is}
 use Rattle.rules.proofs.Least.{None, least-first, least-none}
+use Rattle.lines.proofs.Tests.{untrue}
 use Rattle.keys.specs.Compare.{sameKey}
 use Rattle.keys.specs.Keyed.{takesAt, keyAt}
 use Rattle.keys.specs.declared.By.{By}
@@ -51,10 +52,6 @@ joined-is Records p j (suc k) y l h = go (p k) refl
 
 pub linked-records : (t : By) (j k : ℕ) → t ≡ Records → eqb (j + 1) k ≡ linked t j k
 linked-records t j k e = rw e
-
-false-is : (b : Bool) → (b ≡ true → ⊥) → b ≡ false
-false-is true h = absurd (h refl)
-false-is false h = refl
 
 module _ (t : By) (f : Sheet) (k : ℕ) (h : repeats t f k ≡ true) where
   repeats-takes : takesAt t f k ≡ true
@@ -133,7 +130,7 @@ module _ (t : By) (f : Sheet) (o : List ℕ) (m : ℕ) (s : Small (keyAt t f)) (
             → repeats t f (nth o (e + 1)) ≡ (b && not (linked t (nth o e) (nth o (e + 1))))
         go true q = repeats-next q
         go false q =
-            false-is _
+            untrue _
             (λ y. let w = repeats-some t f (nth o (e + 1)) y in clash (sym q ∙ like-before (w .0) (w .1) (w .2) .0))
 
   module _ (r : ℕ) (low : (e : ℕ) → e + 1 < m → Low t (keyAt t f) o r e) (most : r ≤ f .count) where

@@ -19,7 +19,7 @@ use Rattle.rules.proofs.Tests.{yes-no}
 use Rattle.rules.proofs.Steps.{need-met, need-broken, when-on, when-off}
 use Rattle.form.specs.Known.{Known}
 use Rattle.form.proofs.Known.{point-time}
-use Rattle.keys.proofs.Pairs.{pair-less}
+use Rattle.fields.proofs.Pairs.{pair-less}
 use Rattle.points.specs.Last.{lastOf, stamp, laterOf, lastStamp}
 use Rattle.points.proofs.Last.{last-is, last-on, last-off}
 

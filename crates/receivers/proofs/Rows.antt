@@ -37,10 +37,10 @@ use Rattle.keys.proofs.Lines.{takes-receiver}
 use Rattle.keys.proofs.Points.{receivers-same}
 use Rattle.keys.proofs.Fit.{key-small}
 use Rattle.order.specs.Sorted.{nth, value}
-use Rattle.order.proofs.Ranks.{few-lines}
+use Rattle.order.proofs.Ranks.{Digits, few-lines, same-test}
 use Rattle.order.proofs.Rising.{value-climbs}
 use Rattle.receivers.specs.Rows.{Rows, isRow, notBelow, rowOf}
-use Rattle.receivers.proofs.Values.{Digits, same-value, less-value}
+use Rattle.receivers.proofs.Values.{less-value}
 use Rattle.receivers.proofs.Below.{Below, below-is, below-join, below-same, below-self}
 use Rattle.receivers.proofs.Rising.{Rising}
 use Rattle.receivers.proofs.Halves.{Up}
@@ -87,7 +87,7 @@ module _ (r : Sheet) (o : List ℕ) (w : KnownReceivers r) (v : Rows r o) where
   module _ (y : Key) where
     pub row-same : Digits y → (e : ℕ) → isRow r o y e ≡ eqb (rowValue r o e) (value y)
     unfolding isRow
-    row-same s e = same-value (keyAt Receivers r (nth o e)) y (row-digits e) s
+    row-same s e = same-test (keyAt Receivers r (nth o e)) y (row-digits e) s
 
     not-below-is : (e : ℕ) → (notBelow r o y e ≡ true) ↔ (Below (keyAt Receivers r (nth o e)) y → ⊥)
     unfolding notBelow

@@ -18,12 +18,13 @@ use Rattle.rules.specs.Points.{pointAt, isAt}
 use Rattle.rules.specs.Relations.{Reach, reachAt}
 use Rattle.rules.specs.Cover.{receivers, receiverOn, covers}
 use Rattle.rules.specs.Order.{isPointAt, receiverLine, receiversThere}
-use Rattle.rules.proofs.Tests.{clash, and-is, every-is, some-is, leb-is, ltb-is, eqb-is, same-name-is}
+use Rattle.rules.proofs.Tests.{clash, and-is, every-is, some-is, leb-is, ltb-is, eqb-is, same-name-is, agree}
 use Rattle.rules.proofs.Least.{least-is, least-there, least-below}
 use Rattle.rules.proofs.Form.{data-is, point-is}
 use Rattle.rules.proofs.Order.{at-is}
 use Rattle.rules.proofs.Accepted.{receiver-line}
 use Rattle.rules.proofs.Cover.{covers-is}
+use Rattle.lines.proofs.Tests.{untrue}
 use Rattle.form.specs.Known.{Known}
 use Rattle.form.proofs.Known.{formed, to-receiver-small}
 use Rattle.keys.specs.declared.Key.{Key}
@@ -39,15 +40,6 @@ use Rattle.receivers.specs.Rows.{Rows, isRow, rowOf, firstRow}
 use Rattle.receivers.proofs.Values.{pair-more}
 use Rattle.receivers.proofs.Rising.{one-place, stands, between}
 use Rattle.receivers.proofs.Rows.{rowValue, ten, row-point, rises, row-same}
-
-agree : (a b : Bool) → (a ≡ true → b ≡ true) → (b ≡ true → a ≡ true) → a ≡ b
-agree true b f g = sym (f refl)
-agree false true f g = clash (g refl)
-agree false false f g = refl
-
-no : (b : Bool) → (b ≡ true → ⊥) → false ≡ b
-no true f = absurd (f refl)
-no false f = refl
 
 abbrev pub keyOn : Sheet → ℕ → ℕ → Key
 keyOn x k n = receiverKey (x .layout) (x .row k) n
@@ -202,7 +194,7 @@ module _ (r : Sheet) (o : List ℕ) (w : KnownReceivers r) (v : Rows r o) (x : S
   -- the two looks
   module _ (e : ℕ) (first : e ≡ firstRow r o x k) where
     pub none-first : e ≡ length o → false ≡ receiversThere r q
-    none-first g = no _ (λ t. omega (arith, first-inside t))
+    none-first g = sym (untrue _ (λ t. omega (arith, first-inside t)))
 
     module _ (from to : ℕ) (ef : from ≡ q .fromReceiver) (et : to ≡ q .toReceiver) where
       pub ordered : from ≤ to
@@ -210,7 +202,7 @@ module _ (r : Sheet) (o : List ℕ) (w : KnownReceivers r) (v : Rows r o) (x : S
 
       pub too-few : length o - e ≤ to - from → false ≡ receiversThere r q
       unfolding receivers
-      too-few g = no _ (λ t. omega (arith, inside t, numbers))
+      too-few g = sym (untrue _ (λ t. omega (arith, inside t, numbers)))
 
       module _ (g : e ≡ length o → ⊥) (l : to - from < length o - e) where
         far : to - from < receivers q

@@ -27,6 +27,7 @@ use Rattle.rules.proofs.Breach.{run-met}
 use Rattle.rules.proofs.Steps.{none-yet, one-more, need-met, before-met}
 use Rattle.rules.proofs.Least.{least-is, least-below}
 use Rattle.rules.proofs.Form.{data-is}
+use Rattle.lines.proofs.Tests.{untrue}
 use Rattle.form.proofs.Known.{formed}
 use Rattle.keys.specs.Held.{RelationLine}
 use Rattle.keys.specs.Keyed.{takesAt}
@@ -66,10 +67,6 @@ headers-met r s x zero f = none-yet (relationFits r s x)
 headers-met r s x (suc n) f =
     one-more (relationFits r s x) n (headers-met r s x n (λ j h. f j (omega arith))) (header-fine r s x n (f n (omega arith)))
     ∙ ap (λ (m : ℕ). run (upTo m (relationFits r s x))) (add-one n)
-
-untrue : (t : Bool) → (t ≡ true → ⊥) → t ≡ false
-untrue true f = absurd (f refl)
-untrue false f = refl
 
 not-on : (x : Sheet) (k : ℕ) → ((j : ℕ) → suc j ≡ k → isData x j ≡ false) → goesOn x k ≡ true → ⊥
 unfolding goesOn isBefore mates reachesOf

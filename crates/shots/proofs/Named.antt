@@ -26,6 +26,7 @@ use Rattle.rules.proofs.Steps.{need-met, need-broken, when-on, when-off}
 use Rattle.rules.proofs.Least.{least-is, least-there, least-below}
 use Rattle.rules.proofs.Form.{Rule4, data-is, point-is}
 use Rattle.rules.proofs.Order.{At as IsAt, at-is, point-at-is}
+use Rattle.lines.proofs.Tests.{untrue}
 use Rattle.form.proofs.Known.{formed}
 use Rattle.keys.specs.Held.{RelationLine, KnownShots}
 use Rattle.keys.specs.Keyed.{takesAt, keyAt}
@@ -34,7 +35,7 @@ use Rattle.keys.specs.declared.Key.{Key}
 use Rattle.keys.proofs.Lines.{takes-point}
 use Rattle.shots.specs.Places.{isShot, namesKey, shotOrder, pastOf, Ordered}
 use Rattle.shots.proofs.Held.{names-shot}
-use Rattle.shots.proofs.Places.{untrue, onFrom, from-found, from-gone, one-shot}
+use Rattle.shots.proofs.Places.{onFrom, from-found, from-gone, one-shot}
 
 abbrev pub lineOf : Sheet → Sheet → ℕ → ℕ
 lineOf s x i = shotLine s (relationAt x i)

@@ -24,12 +24,9 @@ use Rattle.rules.proofs.Steps.{need-met, need-broken, before-met, before-broken
 use Rattle.rules.proofs.Least.{least-is, least-first, least-none, least-there}
 use Rattle.rules.proofs.Order.{Rule12, point-at-is, shots-are}
 use Rattle.rules.proofs.Meets.{shot-line}
+use Rattle.lines.proofs.Tests.{untrue}
 use Rattle.keys.specs.Held.{shotFits, KnownShots}
 use Rattle.shots.specs.Places.{isShot, onward, placeBefore, shotFound}
-
-pub untrue : (t : Bool) → (t ≡ true → ⊥) → t ≡ false
-untrue true f = absurd (f refl)
-untrue false f = refl
 
 -- one place more that does not pass
 pub past-more : (from : ℕ) (p : ℕ → Bool) (j : ℕ) → ((i : ℕ) → from ≤ i → i < j → p i ≡ true → ⊥) → (p j ≡ true → ⊥) → (i : ℕ) → from ≤ i → i < j + 1

@@ -37,6 +37,7 @@ use Rattle.rules.proofs.Accepted.{sound}
 use Rattle.lines.specs.Reading.{sheetOf}
 use Rattle.lines.specs.declared.Reading.{Reading}
 use Rattle.lines.proofs.Sheets.{layout-is}
+use Rattle.lines.proofs.Tests.{greatest-same}
 use Rattle.fields.specs.Packed.{packed}
 use Rattle.fields.specs.Texts.{Long}
 use Rattle.fields.proofs.Texts.{texts-equal}
@@ -137,15 +138,10 @@ module _ (x : Sheet) (w : Known 3 x) (t : List ℕ) (n : ℕ) (a : Asked t n) wh
       ap (λ (b : Bool). isData x k && (b && eqb (reachAt x k .number) n))
       (texts-equal 6 (reachAt x k .tape) t (line-tape 3 x w k h) (tape-long t n a))
 
-  greatest-as : (m : ℕ) (f g : ℕ → ℕ) → ((k : ℕ) → k < m → f k ≡ g k) → greatest m f ≡ greatest m g
-  unfolding greatest
-  greatest-as zero f g e = refl
-  greatest-as (suc m) f g e = rw (greatest-as m f g (λ k h. e k (omega arith)), e m (omega arith))
-
   pub highest-by : (v : Wanted) → v ≡ wantedOf t n
       → greatest (x .count) (λ k. pick (isOf x v k) (reachAt x k .upto) 0) ≡ highestOf x t n
   unfolding highestOf
-  highest-by v e = greatest-as (x .count) _ _ (λ k h. rw (e, is-of k h))
+  highest-by v e = greatest-same (x .count) _ _ (λ k h. rw (e, is-of k h))
 
 -- the greatest so far
 module _ (g : ℕ → ℕ) (k m u : ℕ) (e : m ≡ greatest k g) (f : u ≡ g k) where

@@ -25,6 +25,7 @@ use Rattle.rules.proofs.Cover.{Carries, carries-is}
 use Rattle.rules.proofs.Search.{Of}
 use Rattle.rules.proofs.Traces.{given, found-trace, not-carried}
 use Rattle.rules.proofs.Spreads.{highest-is}
+use Rattle.lines.proofs.Tests.{untrue}
 use Rattle.form.specs.Known.{Known}
 use Rattle.form.proofs.Known.{upto-small}
 use Rattle.spread.specs.declared.wanted.Wanted.{Wanted}
@@ -49,10 +50,6 @@ component-at r x t n c = go (ltb (search (reachesOf x) t n (λ q. carries q c)) 
 here-is : (x : Sheet) (t : List ℕ) (n k c : ℕ)
     → (here x t n k c ≡ true) ↔ (Data x k × (OfRecord t n (reachAt x k) × Carries (reachAt x k) c))
 here-is x t n k c = simp (and-is, data-is, of-record-is, carries-is) Iff·rfl
-
-false-is : (b : Bool) → (b ≡ true → ⊥) → b ≡ false
-false-is true f = absurd (f refl)
-false-is false f = refl
 
 not-both : (a b c : Bool) → (a && b) ≡ false → (a && (b && c)) ≡ false
 not-both true true c e = clash (sym e)
@@ -110,7 +107,7 @@ module _ (r x : Sheet) (t : List ℕ) (n : ℕ) (part : Answer → ℕ) (zero : 
     (ev : (c : ℕ) → part (found r x t n c) ≡ v c) where
   high-none : (i : ℕ) → highestOf x t n ≤ i → hereUpTo x t n (x .count) (i + 1) ≡ false
   high-none i h =
-      false-is _
+      untrue _
       (λ e.
       let w = some-is (x .count) (λ j. here x t n j (i + 1)) .0 e in
       let y = here-is x t n (w .0) (i + 1) .0 (w .2) in

@@ -4,7 +4,7 @@
 use Prim.Native.Nat.{ℕ, zero, suc, _≤_, _<_}
 use native.Mathlib.Omega.{arith}
 use mathlib.Core.Path.{_≡_, refl, sym, ap, _∙_}
-use mathlib.Core.Bool.{Bool, true, false, _&&_}
+use mathlib.Core.Bool.{Bool, true, false, _&&_, and-assoc}
 use mathlib.Core.List.{List}
 use Rattle.rules.specs.Places.{least}
 use Rattle.rules.specs.Plan.{fileX}
@@ -18,6 +18,7 @@ use Rattle.rules.specs.Order.{isPointAt, lineOfPoint, receiverLine}
 use Rattle.lines.specs.Reading.{sheetOf}
 use Rattle.lines.specs.declared.Reading.{Reading}
 use Rattle.lines.proofs.Sheets.{layout-is}
+use Rattle.lines.proofs.Tests.{least-same}
 use Rattle.form.specs.Known.{Known}
 use Rattle.keys.specs.Held.{RelationLine}
 use Rattle.keys.specs.Compare.{sameKey}
@@ -32,15 +33,6 @@ use Rattle.spread.specs.Asked.{Asked, wantedOf, isOf}
 use Rattle.spread.specs.declared.wanted.Wanted.{Wanted}
 use Rattle.spread.proofs.Asked.{is-of}
 use Rattle.traces.specs.Steps.{passes}
-
-least-same : (n : ℕ) (p q : ℕ → Bool) → ((j : ℕ) → j < n → p j ≡ q j) → least n p ≡ least n q
-unfolding least
-least-same zero p q f = refl
-least-same (suc n) p q f = rw (least-same n p q (λ j h. f j (omega arith)), f n (omega arith))
-
-and-assoc : (a b c : Bool) → ((a && b) && c) ≡ (a && (b && c))
-and-assoc true b c = refl
-and-assoc false b c = refl
 
 -- line k of X
 module _ (x : Sheet) (w : Wanted) (p : Reach → Bool) (k : ℕ) (b : Bool) (e : b ≡ isOf x w k) where

@@ -28,6 +28,7 @@ use Rattle.rules.proofs.Traces.{leads-is}
 use Rattle.lines.specs.Reading.{sheetOf}
 use Rattle.lines.specs.declared.Reading.{Reading}
 use Rattle.lines.proofs.Sheets.{layout-is}
+use Rattle.lines.proofs.Tests.{untrue}
 use Rattle.form.specs.Known.{Known}
 use Rattle.form.proofs.Known.{point-number, upto-small}
 use Rattle.records.specs.Coded.{codedReach}
@@ -58,22 +59,18 @@ module _ (r x : Sheet) (i k m : ℕ) (wr : ReceiverLine r i) (wx : Known 3 x) (h
   pub number-small : n < 4294967296
   number-small = let a = point-number 1 r (wr .0) i (wr .1 .0) in omega arith
 
-  no : (b : Bool) → (b ≡ true → ⊥) → false ≡ b
-  no true f = absurd (f refl)
-  no false f = refl
-
   pub not-covered : (b : Bool) → b ≡ covers (reachAt x k) n → b ≡ false → false ≡ Reaches
   not-covered b e z =
-      no _
+      sym (untrue _
       (λ t.
       let w = leads-is (pointAt r i) m (reachAt x k) .0 t .1 .1 .0 in
-      clash (sym z ∙ e ∙ ap (covers (reachAt x k)) en ∙ covers-is (reachAt x k) (pointAt r i .number) .1 w))
+      clash (sym z ∙ e ∙ ap (covers (reachAt x k)) en ∙ covers-is (reachAt x k) (pointAt r i .number) .1 w)))
 
   pub no-component : m < 1 → false ≡ Reaches
-  no-component z = no _ (λ t. let w = leads-is (pointAt r i) m (reachAt x k) .0 t .1 .1 .1 .0 in omega arith)
+  no-component z = sym (untrue _ (λ t. let w = leads-is (pointAt r i) m (reachAt x k) .0 t .1 .1 .1 .0 in omega arith))
 
   pub too-high : (s : ℕ) → s ≡ reachAt x k .step → s < m → false ≡ Reaches
-  too-high s e z = no _ (λ t. let w = leads-is (pointAt r i) m (reachAt x k) .0 t .1 .1 .1 .1 in omega arith)
+  too-high s e z = sym (untrue _ (λ t. let w = leads-is (pointAt r i) m (reachAt x k) .0 t .1 .1 .1 .1 in omega arith))
 
   pub by-key : (b : Bool) → b ≡ covers (reachAt x k) n → b ≡ true → 1 ≤ m → (s : ℕ) → s ≡ reachAt x k .step → m ≤ s → (y : Key)
       → y ≡ receiverKey (x .layout) (x .row k) n → (d : Bool) → d ≡ sameKey (keyAt Receivers r i) y → d ≡ Reaches

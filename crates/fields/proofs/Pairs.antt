@@ -1,19 +1,27 @@
 -- Two numbers as one, to a base above the second: it compares as they do, the first before the second.
+--   pair-same, pair-less = as tests
+--   first-by             = by A; where even (E), by a; where even (e), by L: the first two as one test, and then L
+--   or-never             = where even, never
 use Prim.Native.Nat.{ℕ, suc, _+_, _*_, _≤_, _<_}
 use native.Mathlib.Nat.{mul-le-mul-left, mul-suc}
 use native.Mathlib.Omega.{arith}
-use mathlib.Core.Path.{_≡_, refl, sym, ap}
+use mathlib.Core.Path.{_≡_, refl, ap}
 use mathlib.Core.Logic.{⊎-elim, inl, inr}
 use mathlib.Core.Bool.{Bool, true, false, _&&_, _||_}
 use lib.Dec.{eqb, ltb}
 use borrow.Author.Tests.{eq-eqb, eqb-true, lt-ltb, ltb-true}
-use Rattle.rules.proofs.Tests.{and-is, or-is, yes-no}
+use Rattle.rules.proofs.Tests.{agree, and-is, or-is, yes-no}
 
--- two tests are one where each passes with the other
-agree : (s t : Bool) → (s ≡ true → t ≡ true) → (t ≡ true → s ≡ true) → s ≡ t
-agree true t f g = sym (f refl)
-agree false true f g = g refl
-agree false false f g = refl
+pub first-by : (A E a e L : Bool) → ((A || (E && a)) || ((E && e) && L)) ≡ (A || (E && (a || (e && L))))
+first-by true E a e L = refl
+first-by false false a e L = refl
+first-by false true true e L = refl
+first-by false true false e L = refl
+
+pub or-never : (a b : Bool) → a ≡ (a || (b && false))
+or-never true b = refl
+or-never false true = refl
+or-never false false = refl
 
 module _ (B p i q j : ℕ) (h : i < B) (g : j < B) where
   step : p < q → B * p + B ≤ B * q
