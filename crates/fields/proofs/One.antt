@@ -1,7 +1,7 @@
 -- The contracts of this crate leave one outcome: for every public function, any two results that meet its contract are the same.
 use native.Mathlib.Nat.{le-refl}
 use mathlib.Core.Path.{_≡_, refl, sym, _∙_}
-use Rattle.outcome.specs.One.{One}
+use Rattle.outcome.specs.One.{One, alike}
 use Rattle.fields.proofs.bytes.blank as blank
 use Rattle.fields.proofs.bytes.blank.Reads as blank-reads
 use Rattle.fields.proofs.kinds.digits_only as digits-only
@@ -76,46 +76,46 @@ number-one (Minus m) (Plus n) e = cc
 number-one (Minus m) (Minus n) e = cc
 
 pub blank-one : One blank.ended blank-reads.Post
-blank-one κs a v v′ w w′ p p′ = (p ∙ sym p′, refl)
+blank-one κs a v v′ w w′ = alike
 
 pub digits-only-one : One digits-only.ended digits-only-reads.Post
-digits-only-one κs a v v′ w w′ p p′ = (p ∙ sym p′, refl)
+digits-only-one κs a v v′ w w′ = alike
 
 pub index-of-one : One index-of.ended index-of-reads.Post
-index-of-one κs a v v′ w w′ p p′ = (p ∙ sym p′, refl)
+index-of-one κs a v v′ w w′ = alike
 
 pub starts-non-blank-one : One starts-non-blank.ended starts-non-blank-reads.Post
 starts-non-blank-one κs a v v′ w w′ p p′ = (p _ (le-refl _) ∙ sym (p′ _ (le-refl _)), refl)
 
 pub coordinate-one : One coordinate.ended coordinate-reads.Post
-coordinate-one κs a v v′ w w′ p p′ = (p ∙ sym p′, refl)
+coordinate-one κs a v v′ w w′ = alike
 
 pub index-one : One index.ended index-reads.Post
 index-one κs a v v′ w w′ p p′ = (p _ (le-refl _) ∙ sym (p′ _ (le-refl _)), refl)
 
 pub water-depth-one : One water-depth.ended water-depth-reads.Post
-water-depth-one κs a v v′ w w′ p p′ = (p ∙ sym p′, refl)
+water-depth-one κs a v v′ w w′ = alike
 
 pub whole-number-one : One whole-number.ended whole-number-reads.Post
-whole-number-one κs a v v′ w w′ p p′ = (p ∙ sym p′, refl)
+whole-number-one κs a v v′ w w′ = alike
 
 pub signed-number-one : One signed-number.ended signed-number-reads.Post
-signed-number-one κs a v v′ w w′ p p′ = (p ∙ sym p′, refl)
+signed-number-one κs a v v′ w w′ = alike
 
 pub kind-signed-decimal-one : One kind-signed-decimal.ended kind-signed-decimal-reads.Post
-kind-signed-decimal-one κs a v v′ w w′ p p′ = (p ∙ sym p′, refl)
+kind-signed-decimal-one κs a v v′ w w′ = alike
 
 pub decimal-number-one : One decimal-number.ended decimal-number-reads.Post
-decimal-number-one κs a v v′ w w′ p p′ = (p ∙ sym p′, refl)
+decimal-number-one κs a v v′ w w′ = alike
 
 pub time-one : One time.ended time-reads.Post
-time-one κs a v v′ w w′ p p′ = (p ∙ sym p′, refl)
+time-one κs a v v′ w w′ = alike
 
 pub two-one : One two.ended two-reads.Post
-two-one κs a v v′ w w′ p p′ = (p ∙ sym p′, refl)
+two-one κs a v v′ w w′ = alike
 
 pub code-one : One code.ended code-reads.Post
-code-one κs a v v′ w w′ p p′ = (p ∙ sym p′, refl)
+code-one κs a v v′ w w′ = alike
 
 pub digits-one : One digits.ended digits-reads.Post
 digits-one κs a v v′ w w′ p p′ = (number-one v v′ (p ∙ sym p′), refl)
@@ -136,28 +136,28 @@ pub water-one : One water.ended water-reads.Post
 water-one κs a v v′ w w′ p p′ = (number-one v v′ (p ∙ sym p′), refl)
 
 pub between-one : One between.ended between-reads.Post
-between-one κs a v v′ w w′ p p′ = (p ∙ sym p′, refl)
+between-one κs a v v′ w w′ = alike
 
 pub within-one : One within.ended within-reads.Post
-within-one κs a v v′ w w′ p p′ = (p ∙ sym p′, refl)
+within-one κs a v v′ w w′ = alike
 
 pub formed-one : One formed.ended formed-reads.Post
-formed-one κs a v v′ w w′ p p′ = (p ∙ sym p′, refl)
+formed-one κs a v v′ w w′ = alike
 
 pub size-one : One size.ended size-reads.Post
-size-one κs a v v′ w w′ p p′ = (p ∙ sym p′, refl)
+size-one κs a v v′ w w′ = alike
 
 pub value-one : One value.ended value-reads.Post
-value-one κs a v v′ w w′ p p′ = (p ∙ sym p′, refl)
+value-one κs a v v′ w w′ = alike
 
 pub pack-one : One pack.ended pack-reads.Post
-pack-one κs a v v′ w w′ p p′ = (p ∙ sym p′, refl)
+pack-one κs a v v′ w w′ = alike
 
 pub name-one : One name.ended name-reads.Post
-name-one κs a v v′ w w′ p p′ = (p ∙ sym p′, refl)
+name-one κs a v v′ w w′ = alike
 
 pub same-name-one : One same-name.ended same-name-reads.Post
-same-name-one κs a v v′ w w′ p p′ = (p ∙ sym p′, refl)
+same-name-one κs a v v′ w w′ = alike
 
 pub fits-one : One fits.ended fits-reads.Post
-fits-one κs a v v′ w w′ p p′ = (p ∙ sym p′, refl)
+fits-one κs a v v′ w w′ = alike

@@ -1,6 +1,6 @@
 -- The contracts of this crate leave one outcome: any two results that meet one of them are the same.
 use mathlib.Core.Path.{refl, sym, _∙_}
-use Rattle.outcome.specs.One.{One}
+use Rattle.outcome.specs.One.{One, alike}
 use Rattle.lines.proofs.One.{verdict-one}
 use Rattle.headers.proofs.heads as heads
 use Rattle.headers.proofs.heads.Reads as heads-reads
@@ -16,10 +16,10 @@ use Rattle.headers.proofs.headers_fit as headers-fit
 use Rattle.headers.proofs.headers_fit.Reads as headers-fit-reads
 
 pub heads-one : One heads.ended heads-reads.Post
-heads-one κs a v v′ w w′ p p′ = (p ∙ sym p′, refl)
+heads-one κs a v v′ w w′ = alike
 
 pub names-projection-one : One names-projection.ended names-projection-reads.Post
-names-projection-one κs a v v′ w w′ p p′ = (p ∙ sym p′, refl)
+names-projection-one κs a v v′ w w′ = alike
 
 pub rule7-one : One rule7.ended rule7-reads.Post
 rule7-one κs a v v′ w w′ p p′ = (verdict-one v v′ (p ∙ sym p′), refl)

@@ -1,6 +1,5 @@
 -- The contracts of this crate leave one outcome: for every public function, any two results that meet its contract are the same.
-use mathlib.Core.Path.{refl, sym, _∙_}
-use Rattle.outcome.specs.One.{One}
+use Rattle.outcome.specs.One.{One, alike}
 use Rattle.keys.proofs.takes as takes
 use Rattle.keys.proofs.takes.Reads as takes-reads
 use Rattle.keys.proofs.key_of as key-of
@@ -29,40 +28,40 @@ use Rattle.keys.proofs.parts.third as third
 use Rattle.keys.proofs.parts.third.Reads as third-reads
 
 pub takes-one : One takes.ended takes-reads.Post
-takes-one κs a v v′ w w′ p p′ = (p ∙ sym p′, refl)
+takes-one κs a v v′ w w′ = alike
 
 pub key-of-one : One key-of.ended key-of-reads.Post
-key-of-one κs a v v′ w w′ p p′ = (p ∙ sym p′, refl)
+key-of-one κs a v v′ w w′ = alike
 
 pub is-at-one : One is-at.ended is-at-reads.Post
-is-at-one κs a v v′ w w′ p p′ = (p ∙ sym p′, refl)
+is-at-one κs a v v′ w w′ = alike
 
 pub holds-one : One holds.ended holds-reads.Post
-holds-one κs a v v′ w w′ p p′ = (p ∙ sym p′, refl)
+holds-one κs a v v′ w w′ = alike
 
 pub same-one : One same.ended same-reads.Post
-same-one κs a v v′ w w′ p p′ = (p ∙ sym p′, refl)
+same-one κs a v v′ w w′ = alike
 
 pub below-one : One below.ended below-reads.Post
-below-one κs a v v′ w w′ p p′ = (p ∙ sym p′, refl)
+below-one κs a v v′ w w′ = alike
 
 pub less-one : One less.ended less-reads.Post
-less-one κs a v v′ w w′ p p′ = (p ∙ sym p′, refl)
+less-one κs a v v′ w w′ = alike
 
 pub shot-key-one : One shot-key.ended shot-key-reads.Post
-shot-key-one κs a v v′ w w′ p p′ = (p ∙ sym p′, refl)
+shot-key-one κs a v v′ w w′ = alike
 
 pub receiver-key-one : One receiver-key.ended receiver-key-reads.Post
-receiver-key-one κs a v v′ w w′ p p′ = (p ∙ sym p′, refl)
+receiver-key-one κs a v v′ w w′ = alike
 
 pub parts-takes-one : One parts-takes.ended parts-takes-reads.Post
-parts-takes-one κs a v v′ w w′ p p′ = (p ∙ sym p′, refl)
+parts-takes-one κs a v v′ w w′ = alike
 
 pub first-one : One first.ended first-reads.Post
-first-one κs a v v′ w w′ p p′ = (p ∙ sym p′, refl)
+first-one κs a v v′ w w′ = alike
 
 pub second-one : One second.ended second-reads.Post
-second-one κs a v v′ w w′ p p′ = (p ∙ sym p′, refl)
+second-one κs a v v′ w w′ = alike
 
 pub third-one : One third.ended third-reads.Post
-third-one κs a v v′ w w′ p p′ = (p ∙ sym p′, refl)
+third-one κs a v v′ w w′ = alike

@@ -1,6 +1,6 @@
 -- The contracts of this crate leave one outcome: for every public function, any two results that meet its contract are the same.
 use mathlib.Core.Path.{_≡_, refl, sym, _∙_}
-use Rattle.outcome.specs.One.{One}
+use Rattle.outcome.specs.One.{One, alike}
 use Rattle.lines.proofs.at_line as at-line
 use Rattle.lines.proofs.at_line.Reads as at-line-reads
 use Rattle.lines.proofs.disc as disc
@@ -30,19 +30,19 @@ verdict-one (Refused n f l c) Fine e = cc
 verdict-one (Refused n f l c) (Refused n′ f′ l′ c′) e = cc
 
 pub disc-one : One disc.ended disc-reads.Post
-disc-one κs a v v′ w w′ p p′ = (p ∙ sym p′, refl)
+disc-one κs a v v′ w w′ = alike
 
 pub line-count-one : One line-count.ended line-count-reads.Post
-line-count-one κs a v v′ w w′ p p′ = (p ∙ sym p′, refl)
+line-count-one κs a v v′ w w′ = alike
 
 pub length-fits-one : One length-fits.ended length-fits-reads.Post
 length-fits-one κs a v v′ w w′ p p′ = (verdict-one v v′ (p ∙ sym p′), refl)
 
 pub line-of-one : One line-of.ended line-of-reads.Post
-line-of-one κs a v v′ w w′ p p′ = (p ∙ sym p′, refl)
+line-of-one κs a v v′ w w′ = alike
 
 pub stray-one : One stray.ended stray-reads.Post
-stray-one κs a v v′ w w′ p p′ = (p ∙ sym p′, refl)
+stray-one κs a v v′ w w′ = alike
 
 -- a part is where it lies and what it holds
 pub show-one : (κs : Lfts 1) (a : ArgsD show.signature κs) (v v′ : ResD show.signature κs) (s s′ : AtExit show.ended κs)

@@ -4,7 +4,7 @@ use mathlib.Core.Path.{_≡_, refl, sym, _∙_}
 use contract.Lifetimes.{Lfts}
 use borrow.Fn.World.{ArgsD, ResD}
 use denote.Triple.Clauses.{AtExit}
-use Rattle.outcome.specs.One.{One, both}
+use Rattle.outcome.specs.One.{One, both, alike}
 use Rattle.lines.proofs.One.{verdict-one}
 use Rattle.once.proofs.Spans.{spanned-one, cleared-one}
 use Rattle.once.proofs.clear as clear
@@ -21,7 +21,7 @@ pub covered-once-one : (κs : Lfts 4) (a : ArgsD covered-once.signature κs) (v 
 covered-once-one κs a v v′ s s′ p p′ = verdict-one v v′ (p .0 ∙ sym (p′ .0))
 
 pub is-marked-one : One is-marked.ended is-marked-reads.Post
-is-marked-one κs a v v′ w w′ p p′ = (p ∙ sym p′, refl)
+is-marked-one κs a v v′ w w′ = alike
 
 pub mark-one : One mark.ended mark-reads.Post
 mark-one κs a v v′ w w′ p p′ = (refl, both (spanned-one _ _ _ _ _ _ p p′) refl)

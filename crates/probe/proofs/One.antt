@@ -1,6 +1,6 @@
 -- The contracts of this crate leave one outcome: any two results, and contents of the lent slices, that meet one are the same.
 use mathlib.Core.Path.{refl, sym, _∙_}
-use Rattle.outcome.specs.One.{One, both}
+use Rattle.outcome.specs.One.{One, both, alike}
 use Rattle.probe.proofs.probe_show as probe-show
 use Rattle.probe.proofs.probe_show.Reads as probe-show-reads
 use Rattle.probe.proofs.probe_line as probe-line
@@ -22,10 +22,10 @@ pub probe-show-one : One probe-show.ended probe-show-reads.Post
 probe-show-one κs a v v′ w w′ p p′ = (p .0 ∙ sym (p′ .0), both refl (both refl (both refl (both refl (both (p .1 ∙ sym (p′ .1)) refl)))))
 
 pub probe-line-one : One probe-line.ended probe-line-reads.Post
-probe-line-one κs a v v′ w w′ p p′ = (p ∙ sym p′, refl)
+probe-line-one κs a v v′ w w′ = alike
 
 pub probe-form-one : One probe-form.ended probe-form-reads.Post
-probe-form-one κs a v v′ w w′ p p′ = (p ∙ sym p′, refl)
+probe-form-one κs a v v′ w w′ = alike
 
 pub probe-point-one : One probe-point.ended probe-point-reads.Post
 probe-point-one κs a v v′ w w′ p p′ = (refl, both refl (both (p .0 ∙ sym (p′ .0)) (both (p .1 ∙ sym (p′ .1)) refl)))
@@ -34,10 +34,10 @@ pub probe-relation-one : One probe-relation.ended probe-relation-reads.Post
 probe-relation-one κs a v v′ w w′ p p′ = (refl, both refl (both (p ∙ sym p′) refl))
 
 pub point-numbers-one : One point-numbers.ended point-numbers-reads.Post
-point-numbers-one κs a v v′ w w′ p p′ = (p ∙ sym p′, refl)
+point-numbers-one κs a v v′ w w′ = alike
 
 pub point-signed-one : One point-signed.ended point-signed-reads.Post
-point-signed-one κs a v v′ w w′ p p′ = (p ∙ sym p′, refl)
+point-signed-one κs a v v′ w w′ = alike
 
 pub relation-numbers-one : One relation-numbers.ended relation-numbers-reads.Post
-relation-numbers-one κs a v v′ w w′ p p′ = (p ∙ sym p′, refl)
+relation-numbers-one κs a v v′ w w′ = alike

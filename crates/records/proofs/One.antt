@@ -2,7 +2,7 @@
 -- what follows where they are true.
 use mathlib.Core.Path.{_≡_, refl, sym, _∙_}
 use Rattle.rules.specs.Relations.{Reach as PaperReach}
-use Rattle.outcome.specs.One.{One}
+use Rattle.outcome.specs.One.{One, alike}
 use Rattle.records.specs.Coded.{Ordered, codedReach}
 use Rattle.records.specs.declared.relation.Reach.{Reach}
 use Rattle.records.proofs.cover.traces as traces
@@ -50,10 +50,10 @@ use Rattle.records.proofs.Reaches.{one-value}
 use Rattle.lines.proofs.One.{verdict-one}
 
 pub is-header-one : One is-header.ended is-header-reads.Post
-is-header-one κs a v v′ w w′ p p′ = (p ∙ sym p′, refl)
+is-header-one κs a v v′ w w′ = alike
 
 pub is-marker-one : One is-marker.ended is-marker-reads.Post
-is-marker-one κs a v v′ w w′ p p′ = (p ∙ sym p′, refl)
+is-marker-one κs a v v′ w w′ = alike
 
 pub rule5-one : One rule5.ended rule5-reads.Post
 rule5-one κs a v v′ w w′ p p′ = (verdict-one v v′ (p ∙ sym p′), refl)
@@ -62,22 +62,22 @@ pub rule6-one : One rule6.ended rule6-reads.Post
 rule6-one κs a v v′ w w′ p p′ = (verdict-one v v′ (p ∙ sym p′), refl)
 
 pub point-of-one : One point-of.ended point-of-reads.Post
-point-of-one κs a v v′ w w′ p p′ = (p ∙ sym p′, refl)
+point-of-one κs a v v′ w w′ = alike
 
 pub number-at-one : One number-at.ended number-at-reads.Post
-number-at-one κs a v v′ w w′ p p′ = (p ∙ sym p′, refl)
+number-at-one κs a v v′ w w′ = alike
 
 pub index-at-one : One index-at.ended index-at-reads.Post
-index-at-one κs a v v′ w w′ p p′ = (p ∙ sym p′, refl)
+index-at-one κs a v v′ w w′ = alike
 
 pub reach-of-one : One reach-of.ended reach-of-reads.Post
-reach-of-one κs a v v′ w w′ p p′ = (p ∙ sym p′, refl)
+reach-of-one κs a v v′ w w′ = alike
 
 pub relation-of-one : One relation-of.ended relation-of-reads.Post
-relation-of-one κs a v v′ w w′ p p′ = (p ∙ sym p′, refl)
+relation-of-one κs a v v′ w w′ = alike
 
 pub row-count-one : One row-count.ended row-count-reads.Post
-row-count-one κs a v v′ w w′ p p′ = (p ∙ sym p′, refl)
+row-count-one κs a v v′ w w′ = alike
 
 pub row-at-one : One row-at.ended row-at-reads.Post
 row-at-one κs a v v′ w w′ p p′ = (row-one v v′ (p .0 ∙ sym (p′ .0)), refl)

@@ -1,6 +1,6 @@
 -- The contracts of this crate leave one outcome: any two answers or counts that meet one of them are the same.
 use mathlib.Core.Path.{_≡_, refl, sym, _∙_}
-use Rattle.outcome.specs.One.{One}
+use Rattle.outcome.specs.One.{One, alike}
 use Rattle.sets.specs.declared.Answer.{Answer}
 use Rattle.sets.specs.declared.Answer.the-variants.{Accepted, Refused}
 use Rattle.sets.specs.Paper.{paper}
@@ -28,10 +28,10 @@ pub check-one : One check.ended check-reads.Post
 check-one κs a v v′ w w′ p p′ = (answer-one v v′ (p ∙ sym p′), refl)
 
 pub points-one : One points.ended points-reads.Post
-points-one κs a v v′ w w′ p p′ = (p ∙ sym p′, refl)
+points-one κs a v v′ w w′ = alike
 
 pub relations-one : One relations.ended relations-reads.Post
-relations-one κs a v v′ w w′ p p′ = (p ∙ sym p′, refl)
+relations-one κs a v v′ w w′ = alike
 
 pub traces-one : One traces.ended traces-reads.Post
-traces-one κs a v v′ w w′ p p′ = (p ∙ sym p′, refl)
+traces-one κs a v v′ w w′ = alike

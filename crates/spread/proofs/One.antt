@@ -1,6 +1,6 @@
 -- The contracts of this crate leave one outcome: any two results, and contents of the lent slices, that meet one of them are the same.
 use mathlib.Core.Path.{refl, sym, _∙_}
-use Rattle.outcome.specs.One.{One, both}
+use Rattle.outcome.specs.One.{One, both, alike}
 use Rattle.spread.proofs.highest as highest
 use Rattle.spread.proofs.highest.Reads as highest-reads
 use Rattle.spread.proofs.fill as fill
@@ -31,7 +31,7 @@ use Rattle.spread.proofs.components.put_all as components-put-all
 use Rattle.spread.proofs.components.put_all.Reads as components-put-all-reads
 
 pub highest-one : One highest.ended highest-reads.Post
-highest-one κs a v v′ w w′ p p′ = (p ∙ sym p′, refl)
+highest-one κs a v v′ w w′ = alike
 
 pub fill-one : One fill.ended fill-reads.Post
 fill-one κs a v v′ w w′ p p′ =
@@ -42,13 +42,13 @@ fill-bytes-one κs a v v′ w w′ p p′ =
     (refl, both refl (both refl (both refl (both refl (both refl (both (p .0 ∙ sym (p′ .0)) (both (p .1 ∙ sym (p′ .1)) refl)))))))
 
 pub wanted-coded-one : One wanted-coded.ended wanted-coded-reads.Post
-wanted-coded-one κs a v v′ w w′ p p′ = (p ∙ sym p′, refl)
+wanted-coded-one κs a v v′ w w′ = alike
 
 pub wanted-is-of-one : One wanted-is-of.ended wanted-is-of-reads.Post
-wanted-is-of-one κs a v v′ w w′ p p′ = (p ∙ sym p′, refl)
+wanted-is-of-one κs a v v′ w w′ = alike
 
 pub wanted-upto-of-one : One wanted-upto-of.ended wanted-upto-of-reads.Post
-wanted-upto-of-one κs a v v′ w w′ p p′ = (p ∙ sym p′, refl)
+wanted-upto-of-one κs a v v′ w w′ = alike
 
 pub numbers-clear-one : One numbers-clear.ended numbers-clear-reads.Post
 numbers-clear-one κs a v v′ w w′ p p′ = (refl, both refl (both (p ∙ sym p′) refl))

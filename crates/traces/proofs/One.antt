@@ -1,7 +1,7 @@
 -- The contracts of this crate leave one outcome: any two results, and contents of the lent slices, that meet one of them are
 -- the same.
 use mathlib.Core.Path.{_≡_, refl, sym, _∙_}
-use Rattle.outcome.specs.One.{One, both}
+use Rattle.outcome.specs.One.{One, both, alike}
 use Rattle.traces.specs.declared.Answer.{Answer}
 use Rattle.traces.specs.declared.Answer.the-variants.{Trace, Channel, NoTrace, Refused}
 use Rattle.traces.specs.declared.Spread.{Spread}
@@ -55,22 +55,22 @@ answer-one (Refused n f l c) NoTrace e = cc
 answer-one (Refused n f l c) (Refused n′ f′ l′ c′) e = cc
 
 pub asked-record-one : One asked-record.ended asked-record-reads.Post
-asked-record-one κs a v v′ w w′ p p′ = (p ∙ sym p′, refl)
+asked-record-one κs a v v′ w w′ = alike
 
 pub asked-channel-one : One asked-channel.ended asked-channel-reads.Post
-asked-channel-one κs a v v′ w w′ p p′ = (p ∙ sym p′, refl)
+asked-channel-one κs a v v′ w w′ = alike
 
 pub asked-receiver-one : One asked-receiver.ended asked-receiver-reads.Post
-asked-receiver-one κs a v v′ w w′ p p′ = (p ∙ sym p′, refl)
+asked-receiver-one κs a v v′ w w′ = alike
 
 pub forth-carrier-one : One forth-carrier.ended forth-carrier-reads.Post
-forth-carrier-one κs a v v′ w w′ p p′ = (p ∙ sym p′, refl)
+forth-carrier-one κs a v v′ w w′ = alike
 
 pub forth-receiver-line-one : One forth-receiver-line.ended forth-receiver-line-reads.Post
-forth-receiver-line-one κs a v v′ w w′ p p′ = (p ∙ sym p′, refl)
+forth-receiver-line-one κs a v v′ w w′ = alike
 
 pub back-reacher-one : One back-reacher.ended back-reacher-reads.Post
-back-reacher-one κs a v v′ w w′ p p′ = (p ∙ sym p′, refl)
+back-reacher-one κs a v v′ w w′ = alike
 
 pub trace-on-one : One trace-on.ended trace-on-reads.Post
 trace-on-one κs a v v′ w w′ p p′ = (answer-one v v′ (p ∙ sym p′), refl)
