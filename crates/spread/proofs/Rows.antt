@@ -4,7 +4,6 @@
 --   rows-first = the places that the order counts, by themselves, are rows
 use Prim.Native.Nat.{ℕ, _≤_}
 use native.Mathlib.Omega.{arith}
-use mathlib.Core.Path.{_≡_}
 use mathlib.Core.List.{List}
 use lib.Dec.{lit≤}
 use lib.ListN.{length, take, replicate, length-replicate}
@@ -17,8 +16,7 @@ use Rattle.order.specs.Listed.{InOrder, Sortable}
 use Rattle.order.proofs.Taken.{order-taken}
 use Rattle.receivers.specs.Rows.{Rows}
 
-pub sortable : (r : Sheet) (o p : List ℕ) → KnownReceivers r → mostLines ≤ length o → length p ≡ 9999 → Sortable Receivers r o p
-unfolding mostLines
+pub sortable : (r : Sheet) (o p : List ℕ) → KnownReceivers r → mostLines ≤ length o → mostLines ≤ length p → Sortable Receivers r o p
 sortable r o p w h n =
     let few = w .0 .few in (
       record { second = λ k. key-small 1 r (w .0) k Receivers .0; third = λ k. key-small 1 r (w .0) k Receivers .1 },

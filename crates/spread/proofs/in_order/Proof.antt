@@ -1,9 +1,8 @@
 -- `spread::in_order` meets its contract. Assumes nothing.
-use Prim.Native.Nat.{ℕ}
 use Rattle.lines.specs.Reading.{sheetOf}
-use Rattle.spread.proofs.Rows.{rows-first, sortable}
+use Rattle.spread.proofs.Rows.{all-room, rows-first, sortable}
 use borrow.Author.Needs.{needs}
-use lib.ListN.{length-replicate, replicate}
+use lib.ListN.{replicate}
 use Rattle.spread.proofs.in_order.Statement.{statement}
 use Rattle.spread.proofs.in_order.Tie as tie
 
@@ -14,7 +13,7 @@ in-order-requires : tie.Need-in-order-requires
 in-order-requires c κs =
     let b = c .before .before .before .before in
     let a = b .args in
-    sortable (sheetOf (a .how) (a .r .now)) (a .o .now) (replicate 9999 0) (b .pre .0) (b .pre .1) (length-replicate {A = ℕ} 9999 0)
+    sortable (sheetOf (a .how) (a .r .now)) (a .o .now) (replicate 9999 0) (b .pre .0) (b .pre .1) all-room
 
 same-length : tie.Need-same-length
 same-length c = search needs
