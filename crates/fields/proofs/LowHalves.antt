@@ -12,7 +12,7 @@ use lib.ListN.{getD}
 use borrow.Author.Tests.{eqb-true}
 use Rattle.rules.specs.Places.{pick}
 use Rattle.rules.specs.Text.{cols}
-use Rattle.rules.specs.Numbers.{digit, Number, malformed, plus, minus, digitsAfter, digits, justified, whole}
+use Rattle.rules.specs.Numbers.{digit, malformed, plus, digitsAfter, digits, justified, whole}
 use Rattle.rules.proofs.Tests.{says}
 use Rattle.rules.proofs.Columns.{cols-end, cols-step}
 use Rattle.fields.specs.Figures.{figuresAfter, figures}

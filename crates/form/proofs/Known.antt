@@ -3,7 +3,7 @@
 --   formed             = it is well formed in the paper's words
 --   long-at, index-small, number-small = a field of a line of bytes, by its span
 --   point-wide .. to-receiver-small    = the fields of line k that the rules over the set compare
-use Prim.Native.Nat.{ℕ, _+_, _-_, _^_, _≤_, _<_}
+use Prim.Native.Nat.{ℕ, _+_, _-_, _^_, _<_}
 use native.Mathlib.Omega.{arith}
 use mathlib.Core.Path.{_≡_, refl, sym, subst}
 use mathlib.Core.Bool.{Bool, true, false}

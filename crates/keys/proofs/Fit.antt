@@ -2,7 +2,7 @@
 --   figures-small = the number in at most 8 columns, read without a test
 --   key-small     = the second and third number of every key, of a line of the file or beyond it
 --   asked-small   = and of the key by which a relation line asks for a receiver
-use Prim.Native.Nat.{ℕ, zero, suc, _+_, _-_, _*_, _%_, _≤_, _<_}
+use Prim.Native.Nat.{ℕ, zero, suc, _+_, _-_, _*_, _%_, _<_}
 use native.Mathlib.Omega.{arith}
 use mathlib.Core.Path.{_≡_, refl, sym, subst}
 use mathlib.Core.Bool.{Bool, true, false}

@@ -3,7 +3,7 @@
 --   Bracket p m lo hi  = places below lo do not pass, and place hi does
 use Prim.Native.Nat.{ℕ, _+_, _-_, _/_, _≤_, _<_}
 use native.Mathlib.Omega.{arith}
-use mathlib.Core.Path.{_≡_, sym, ap, subst, _∙_}
+use mathlib.Core.Path.{_≡_, sym, ap, _∙_}
 use mathlib.Core.Bool.{Bool, true, false}
 use Rattle.rules.specs.Places.{least}
 use Rattle.rules.proofs.Tests.{clash}

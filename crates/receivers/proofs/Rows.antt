@@ -10,10 +10,10 @@ use native.Mathlib.Nat.{eq-or-lt-of-le}
 use native.Mathlib.Omega.{arith}
 use mathlib.Core.Path.{_≡_, sym, ap, _∙_}
 use mathlib.Core.Logic.{_↔_, ⊎-elim}
-use mathlib.Core.Bool.{Bool, true, false, not}
+use mathlib.Core.Bool.{Bool, true, false}
 use mathlib.Core.List.{List}
 use lib.Dec.{eqb}
-use lib.ListN.{length, getD}
+use lib.ListN.{length}
 use borrow.Author.Tests.{lt-ltb}
 use Rattle.rules.specs.Places.{least}
 use Rattle.rules.specs.Plan.{upTo}
@@ -21,7 +21,7 @@ use Rattle.rules.specs.Sheet.{Sheet}
 use Rattle.rules.specs.Lines.{isPoint}
 use Rattle.rules.specs.Points.{pointAt, samePoint}
 use Rattle.rules.specs.Order.{rule10}
-use Rattle.rules.proofs.Tests.{clash, and-is, not-is}
+use Rattle.rules.proofs.Tests.{clash, not-is}
 use Rattle.rules.proofs.Least.{least-first, least-none, least-there, least-below}
 use Rattle.rules.proofs.Breach.{run-met}
 use Rattle.rules.proofs.Form.{point-is}

@@ -3,14 +3,14 @@
 --   stand          = where each is there, they stand in rows that follow each other
 --   inside, row-line, rows-covered = so the rows of its receivers are those from the first on, as many as they are
 --   none-first, too-few, last-tells = what the two looks tell
-use Prim.Native.Nat.{ℕ, _+_, _-_, _*_, _≤_, _<_}
+use Prim.Native.Nat.{ℕ, _+_, _-_, _≤_, _<_}
 use native.Mathlib.Omega.{arith}
 use mathlib.Core.Path.{_≡_, refl, sym, ap, subst, _∙_}
 use mathlib.Core.Logic.{⊎-elim}
 use mathlib.Core.Bool.{Bool, true, false, _&&_}
 use mathlib.Core.List.{List}
 use lib.Dec.{eqb, leb, ltb}
-use lib.ListN.{length, getD}
+use lib.ListN.{length}
 use borrow.Author.Tests.{eqb-true, eq-eqb}
 use Rattle.rules.specs.Names.{sameName}
 use Rattle.rules.specs.Sheet.{Sheet}
@@ -18,7 +18,7 @@ use Rattle.rules.specs.Points.{pointAt, isAt}
 use Rattle.rules.specs.Relations.{Reach, reachAt}
 use Rattle.rules.specs.Cover.{receivers, receiverOn, covers}
 use Rattle.rules.specs.Order.{isPointAt, receiverLine, receiversThere}
-use Rattle.rules.proofs.Tests.{clash, and-is, every-is, some-is, leb-is, ltb-is, eqb-is, same-name-is, agree}
+use Rattle.rules.proofs.Tests.{and-is, every-is, some-is, leb-is, ltb-is, same-name-is, agree}
 use Rattle.rules.proofs.Least.{least-is, least-there, least-below}
 use Rattle.rules.proofs.Form.{data-is, point-is}
 use Rattle.rules.proofs.Order.{at-is}
@@ -28,10 +28,8 @@ use Rattle.lines.proofs.Tests.{untrue}
 use Rattle.form.specs.Known.{Known}
 use Rattle.form.proofs.Known.{formed, to-receiver-small}
 use Rattle.keys.specs.declared.Key.{Key}
-use Rattle.keys.specs.declared.By.the-variants.{Receivers}
 use Rattle.keys.specs.Held.{RelationLine, KnownReceivers}
 use Rattle.keys.specs.Keys.{receiverKey}
-use Rattle.keys.specs.Keyed.{keyAt}
 use Rattle.keys.proofs.Lines.{takes-receiver}
 use Rattle.keys.proofs.Points.{receiver-is}
 use Rattle.keys.proofs.Fit.{asked-small}

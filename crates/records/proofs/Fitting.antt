@@ -6,7 +6,7 @@ use mathlib.Core.List.{List, [], _∷_}
 use lib.ListN.{take, drop}
 use borrow.Author.Tests.{not-true, not-false}
 use Rattle.rules.specs.Places.{pick}
-use Rattle.rules.specs.Plan.{Refusal, Verdict, fine, refused, _orElse_, Plan, №, need, when, pass, _before_, run}
+use Rattle.rules.specs.Plan.{Refusal, fine, _orElse_, Plan, №, need, when, _before_, run}
 use Rattle.rules.specs.Text.{blank}
 use Rattle.rules.specs.Layout.{at}
 use Rattle.rules.specs.Kinds.{Kind, fits, mayBeBlank}

@@ -4,13 +4,13 @@
 --   all-fine      = no part refuses
 --   header-fine   = of a header line nothing is asked
 use Prim.Native.Nat.{ℕ}
-use mathlib.Core.Path.{_≡_, refl, sym, _∙_}
+use mathlib.Core.Path.{_≡_, refl, _∙_}
 use mathlib.Core.Bool.{true, false}
 use Rattle.rules.specs.Places.{pick}
-use Rattle.rules.specs.Plan.{Refusal, Verdict, fine, refused, _orElse_, Plan, _before_, when, run}
+use Rattle.rules.specs.Plan.{Refusal, Verdict, fine, refused, _orElse_, Plan, _before_, run}
 use Rattle.rules.specs.Sheet.{Sheet}
 use Rattle.rules.specs.Lines.{isData}
-use Rattle.rules.specs.Order.{rule13, rule14, rule16, rule17, rule18, rule19}
+use Rattle.rules.specs.Order.{rule13, rule14, rule16, rule17}
 use Rattle.rules.specs.Check.{relationFits}
 use Rattle.rules.proofs.Steps.{when-off}
 use Rattle.shots.specs.Places.{shotFound}

@@ -9,31 +9,29 @@ use native.Mathlib.Numerals.{add-one}
 use native.Mathlib.Omega.{arith}
 use mathlib.Core.Path.{_≡_, refl, sym, ap, _∙_, subst}
 use mathlib.Core.Logic.{⊎-elim}
-use mathlib.Core.Bool.{Bool, true, false, _&&_}
+use mathlib.Core.Bool.{Bool, true, false}
 use mathlib.Core.List.{List}
 use lib.Dec.{leb, ltb}
 use lib.ListN.{length}
 use borrow.Author.Tests.{ltb-true, lt-ltb}
-use Rattle.rules.specs.Places.{pick, least, isBefore}
-use Rattle.rules.specs.Plan.{Refusal, fine, refused, №, _before_, upTo, run}
+use Rattle.rules.specs.Places.{pick, isBefore}
+use Rattle.rules.specs.Plan.{Refusal, fine, refused, №, upTo, run}
 use Rattle.rules.specs.Sheet.{Sheet}
 use Rattle.rules.specs.Lines.{isData, heads}
 use Rattle.rules.specs.Relations.{reachAt}
 use Rattle.rules.specs.Reaches.{reachesOf, mates}
-use Rattle.rules.specs.Order.{receiversThere, rule16, rule17, rule18}
+use Rattle.rules.specs.Order.{receiversThere, rule16, rule18}
 use Rattle.rules.specs.Check.{relationFits}
 use Rattle.rules.proofs.Tests.{clash, and-is, yes-no}
 use Rattle.rules.proofs.Breach.{run-met}
-use Rattle.rules.proofs.Steps.{none-yet, one-more, need-met, before-met}
+use Rattle.rules.proofs.Steps.{none-yet, one-more}
 use Rattle.rules.proofs.Least.{least-is, least-below}
 use Rattle.rules.proofs.Form.{data-is}
 use Rattle.lines.proofs.Tests.{untrue}
 use Rattle.form.proofs.Known.{formed}
 use Rattle.keys.specs.Held.{RelationLine}
-use Rattle.keys.specs.Keyed.{takesAt}
 use Rattle.keys.specs.declared.By.the-variants.{Records}
 use Rattle.keys.proofs.Lines.{takes-record}
-use Rattle.order.specs.Sorted.{nth}
 use Rattle.order.specs.Repeat.{repeats}
 use Rattle.mates.specs.Records.{goesOn, startOf}
 use Rattle.mates.proofs.Start.{start-is, start-below, start-lines, own}

@@ -8,7 +8,6 @@ use Rattle.rules.specs.Places.{pick}
 use Rattle.rules.specs.Text.{cols}
 use Rattle.rules.specs.Numbers.{size, whole}
 use Rattle.rules.specs.Layout.{Layout, at, sps93}
-use Rattle.rules.specs.Sheet.{Sheet}
 use Rattle.rules.specs.Lines.{isHeader, isData}
 use Rattle.rules.specs.Points.{numberOf}
 use Rattle.rules.specs.Relations.{reach, reachAt}

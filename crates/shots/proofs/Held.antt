@@ -4,14 +4,12 @@ use Prim.Native.Nat.{ℕ, _≤_, _<_}
 use native.Mathlib.Omega.{arith}
 use lib.Dec.{eqb}
 use borrow.Author.Tests.{eqb-true, eq-eqb}
-use mathlib.Core.Path.{_≡_, refl, sym, ap, _∙_}
-use mathlib.Core.Bool.{Bool, true, false, _&&_}
+use mathlib.Core.Path.{_≡_, sym, ap, _∙_}
+use mathlib.Core.Bool.{true}
 use mathlib.Core.List.{List}
 use Rattle.rules.specs.Layout.{Layout, sps93}
 use Rattle.rules.specs.Sheet.{Sheet, mostLines}
 use Rattle.rules.specs.Lines.{isData, isPoint}
-use Rattle.rules.specs.Points.{pointAt, isAt}
-use Rattle.rules.specs.Relations.{relationAt}
 use Rattle.rules.specs.Order.{isPointAt}
 use Rattle.rules.proofs.Tests.{agree}
 use Rattle.lines.specs.Reading.{sheetOf}

@@ -13,7 +13,7 @@ use mathlib.Core.Logic.{_↔_, ⊎-elim}
 use mathlib.Core.Bool.{Bool, true, false, not, _&&_}
 use lib.Dec.{leb}
 use borrow.Author.Tests.{leb-true, le-leb}
-use Rattle.rules.specs.Places.{some, least}
+use Rattle.rules.specs.Places.{least}
 use Rattle.rules.specs.Plan.{fine, refused, №, upTo, run}
 use Rattle.rules.specs.Sheet.{Sheet}
 use Rattle.rules.specs.Lines.{isData, isPoint, heads}

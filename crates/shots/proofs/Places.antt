@@ -13,12 +13,12 @@ use mathlib.Core.Bool.{Bool, true, false, not, _&&_, _||_}
 use lib.Dec.{leb}
 use borrow.Author.Tests.{leb-true, le-leb, lt-leb}
 use Rattle.rules.specs.Places.{pick, some, least, ifBefore}
-use Rattle.rules.specs.Plan.{fine, refused, №, _before_, upTo, run}
+use Rattle.rules.specs.Plan.{fine, refused, №, upTo, run}
 use Rattle.rules.specs.Sheet.{Sheet}
 use Rattle.rules.specs.Lines.{isData}
 use Rattle.rules.specs.Relations.{relationAt}
-use Rattle.rules.specs.Order.{isPointAt, shotLine, rule13, rule14}
-use Rattle.rules.proofs.Tests.{clash, and-is, some-is, imp-is, if-before-is, yes-no, more}
+use Rattle.rules.specs.Order.{shotLine, rule13, rule14}
+use Rattle.rules.proofs.Tests.{and-is, some-is, imp-is, if-before-is, yes-no, more}
 use Rattle.rules.proofs.Breach.{run-met}
 use Rattle.rules.proofs.Steps.{need-met, need-broken, before-met, before-broken}
 use Rattle.rules.proofs.Least.{least-is, least-first, least-none, least-there}

@@ -1,11 +1,11 @@
 -- One relation line of an accepted set: in which rows its receivers stand, and what its channels take.
 use Prim.Native.Nat.{ℕ, _+_, _-_, _≤_, _<_}
 use native.Mathlib.Omega.{arith}
-use mathlib.Core.Path.{_≡_, refl, sym, ap, _∙_}
-use mathlib.Core.Bool.{Bool, true, _&&_}
+use mathlib.Core.Path.{_≡_, ap, _∙_}
+use mathlib.Core.Bool.{Bool, _&&_}
 use mathlib.Core.List.{List}
 use lib.Dec.{leb, ltb}
-use lib.ListN.{length, getD}
+use lib.ListN.{length}
 use borrow.Author.Tests.{leb-true, le-leb, ltb-true, lt-ltb}
 use Rattle.rules.specs.Sheet.{Sheet, mostLines}
 use Rattle.rules.specs.Relations.{Reach, reachAt}
@@ -13,8 +13,8 @@ use Rattle.rules.specs.Cover.{receivers, receiverOn, carries, leads, component}
 use Rattle.rules.specs.Order.{receiverLine}
 use Rattle.rules.specs.Spread.{Put}
 use Rattle.rules.proofs.Tests.{agree, and-is}
-use Rattle.rules.proofs.Cover.{Covers, Carries, carries-is, Reached, reached}
-use Rattle.form.proofs.Known.{from-small, upto-small, to-receiver-small}
+use Rattle.rules.proofs.Cover.{Carries, Reached, reached}
+use Rattle.form.proofs.Known.{upto-small}
 use Rattle.keys.specs.Held.{RelationLine}
 use Rattle.order.specs.Sorted.{nth}
 use Rattle.records.specs.Coded.{codedReach}

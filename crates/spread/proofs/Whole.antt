@@ -7,7 +7,6 @@ use mathlib.Core.Logic.{_↔_, Iff·rfl}
 use mathlib.Core.Bool.{Bool, true, false, _&&_}
 use mathlib.Core.List.{List}
 use lib.Dec.{ltb}
-use lib.ListN.{length}
 use Rattle.rules.specs.Places.{pick, some}
 use Rattle.rules.specs.Sheet.{Sheet}
 use Rattle.rules.specs.Lines.{isData}

@@ -1,7 +1,7 @@
 -- Lines of X and of R, by what the code finds in them.
 --   passes-off, passes-on = a line of the record that passes a test, or not; walk-of = the first of them is the search's
 --   line-of-key           = the first line with a receiver's key is the receiver's
-use Prim.Native.Nat.{ℕ, zero, suc, _≤_, _<_}
+use Prim.Native.Nat.{ℕ, _<_}
 use native.Mathlib.Omega.{arith}
 use mathlib.Core.Path.{_≡_, refl, sym, ap, _∙_}
 use mathlib.Core.Bool.{Bool, true, false, _&&_, and-assoc}
@@ -11,7 +11,6 @@ use Rattle.rules.specs.Plan.{fileX}
 use Rattle.rules.specs.Layout.{sps93}
 use Rattle.rules.specs.Sheet.{Sheet}
 use Rattle.rules.specs.Lines.{isData, isPoint}
-use Rattle.rules.specs.Points.{pointAt, isAt}
 use Rattle.rules.specs.Relations.{Reach, reachAt}
 use Rattle.rules.specs.Reaches.{reachesOf, ofRecord, search}
 use Rattle.rules.specs.Order.{isPointAt, lineOfPoint, receiverLine}

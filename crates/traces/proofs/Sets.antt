@@ -10,7 +10,6 @@ use Rattle.rules.specs.Places.{pick}
 use Rattle.rules.specs.Plan.{Refusal, Verdict, fine, refused, №, _before_, run}
 use Rattle.rules.specs.Layout.{sps93}
 use Rattle.rules.specs.Sheet.{Sheet, mostLines}
-use Rattle.rules.specs.Lines.{isData}
 use Rattle.rules.specs.Relations.{reachAt}
 use Rattle.rules.specs.Cover.{carries, leads, component}
 use Rattle.rules.specs.Order.{lineOfPoint, receiverLine}

@@ -1,13 +1,13 @@
 -- The spread table: what is answered after 20, the set's own refusals and 21, and what an answer tells of the slices.
 use Prim.Native.Nat.{ℕ, _+_, _≤_, _<_}
 use native.Mathlib.Omega.{arith}
-use mathlib.Core.Path.{_≡_, refl, sym, ap, _∙_}
-use mathlib.Core.Bool.{Bool, true, false, _&&_}
+use mathlib.Core.Path.{_≡_, sym, ap, _∙_}
+use mathlib.Core.Bool.{true, false, _&&_}
 use mathlib.Core.List.{List}
 use lib.Dec.{leb}
-use lib.ListN.{length, set}
+use lib.ListN.{set}
 use borrow.Author.Tests.{le-leb, lt-leb}
-use Rattle.rules.specs.Plan.{Refusal, Verdict, fine, refused, №, _before_, run}
+use Rattle.rules.specs.Plan.{Refusal, Verdict, fine, refused, №, run}
 use Rattle.rules.specs.Layout.{sps93}
 use Rattle.rules.specs.Check.{Answer as PaperAnswer, refusal, highest, verdict, answer}
 use Rattle.rules.specs.Questions.{recordAsked, rule20}
@@ -22,7 +22,7 @@ use Rattle.lines.specs.Reading.{sheetOf}
 use Rattle.lines.specs.declared.Reading.{Reading}
 use Rattle.lines.proofs.Sheets.{layout-is}
 use Rattle.spread.specs.Asked.{Asked, Accepted}
-use Rattle.spread.specs.Taken.{filledLines, filledComponents, componentAt}
+use Rattle.spread.specs.Taken.{filledComponents, componentAt}
 use Rattle.spread.proofs.Whole.{component-at}
 use Rattle.traces.specs.declared.Spread.{Spread}
 use Rattle.traces.specs.declared.Spread.the-variants.{Highest, Refused as Denied}

@@ -1,13 +1,12 @@
 -- The way back, by what the code finds in a line of R and a line of X.
-use Prim.Native.Nat.{ℕ, _+_, _-_, _≤_, _<_}
+use Prim.Native.Nat.{ℕ, _-_, _≤_, _<_}
 use native.Mathlib.Omega.{arith}
-use mathlib.Core.Path.{_≡_, refl, sym, ap, ap₂, _∙_}
+use mathlib.Core.Path.{_≡_, sym, ap, _∙_}
 use mathlib.Core.Logic.{⊎-elim}
-use mathlib.Core.Bool.{Bool, true, false, _&&_}
+use mathlib.Core.Bool.{Bool, true, false}
 use mathlib.Core.List.{List}
 use borrow.Author.Tests.{le-leb, lt-leb, lt-ltb, le-ltb}
 use Rattle.rules.specs.Places.{pick}
-use Rattle.rules.specs.Plan.{fileX}
 use Rattle.rules.specs.Text.{cols}
 use Rattle.rules.specs.Numbers.{size, whole}
 use Rattle.rules.specs.Layout.{sps93, at}

@@ -1,12 +1,12 @@
 -- Text that is added to a buffer.
 use mathlib.Core.Path.{_≡_, refl, ap, sym, _∙_}
 use mathlib.Core.List.{List, [], _∷_, _++_, append-assoc, append-nil}
-use Prim.Native.Nat.{ℕ, zero, suc, _+_, _-_, _≤_, _<_}
+use Prim.Native.Nat.{ℕ, _+_, _≤_, _<_}
 use native.Mathlib.Nat.{zero-add, add-zero, add-assoc}
 use native.Mathlib.Numerals.{add-one}
 use native.Mathlib.Omega.{arith}
 use lib.ListN.{length, take, drop, set, getD, length-append, length-take, take-append-drop}
-use lib.Seq.{drop-drop, take-suc, take-suc-set, drop-set-lt, take-length}
+use lib.Seq.{drop-drop, take-suc, take-suc-set, drop-set-lt}
 use borrow.Author.Tests.{le-leb}
 use Rattle.rules.specs.Places.{pick}
 use Rattle.words.specs.Buffer.{Adds, over}

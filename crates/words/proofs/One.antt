@@ -1,6 +1,6 @@
 -- The contracts of this crate leave one outcome: any two answers, and contents of the lent buffer, that meet one are the same.
 use mathlib.Core.Path.{_≡_, refl, ap, sym, _∙_}
-use mathlib.Core.List.{List, _++_}
+use mathlib.Core.List.{List}
 use Prim.Native.Nat.{ℕ}
 use lib.ListN.{take, drop, take-append-drop}
 use Rattle.outcome.specs.One.{One, both}

@@ -4,7 +4,6 @@ use Rattle.form.proofs.Laws.{is-broken, is-met}
 use Rattle.headers.proofs.Laws.{eight-of, heads-below}
 use Rattle.lines.specs.Paper.{paper}
 use Rattle.rules.proofs.Steps.{none-yet, one-more, stops-here}
-use Rattle.rules.specs.Sheet.{mostLines}
 use Rattle.lines.specs.Reading.{sheetOf}
 use Rattle.lines.proofs.Sheets.{layout-is}
 use Rattle.rules.specs.Headers.{rule8}

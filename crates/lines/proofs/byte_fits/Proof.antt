@@ -3,8 +3,6 @@ use Rattle.rules.specs.Disc.{byteFits, printable}
 use borrow.Author.Tests.{le-leb, lt-leb, eq-eqb, ne-eqb}
 use Rattle.lines.proofs.byte_fits.Statement.{statement}
 use Rattle.lines.proofs.byte_fits.Tie as tie
-use Rattle.lines.proofs.byte_fits.Reads as reads
-use Rattle.lines.proofs.byte_fits.Lts as lts
 
 returns : tie.Need-returns
 unfolding byteFits printable pick

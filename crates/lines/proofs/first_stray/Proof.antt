@@ -1,4 +1,4 @@
-use Prim.Native.Nat.{_+_, _-_, _*_, _≤_}
+use Prim.Native.Nat.{_+_, _-_, _≤_}
 use native.Mathlib.Nat.{add-zero, sub-zero}
 use native.Mathlib.Omega.{arith}
 use mathlib.Core.Path.{_≡_, _∙_}
@@ -7,7 +7,7 @@ use borrow.Author.Needs.{needs}
 use borrow.Author.Tests.{not-true, not-false}
 use Rattle.rules.specs.Disc.{strayFrom}
 use Rattle.lines.proofs.Laws.{stray-end, stray-stop, stray-step}
-use Rattle.lines.proofs.Sheets.{width, place, stray-from}
+use Rattle.lines.proofs.Sheets.{place, stray-from}
 use Rattle.lines.proofs.first_stray.Statement.{statement}
 use Rattle.lines.proofs.first_stray.Tie as tie
 

@@ -1,7 +1,5 @@
-use Prim.Native.Nat.{ℕ, _+_, _/_, _%_, min}
-use mathlib.Core.Path.{_≡_, sym, _∙_}
+use mathlib.Core.Path.{sym, _∙_}
 use native.Mathlib.Omega.{arith}
-use lib.ListN.{length}
 use borrow.Author.Needs.{needs}
 use Rattle.lines.specs.Reading.{sheetOf}
 use Rattle.lines.proofs.Laws.{one-broken, two-broken, both-met}

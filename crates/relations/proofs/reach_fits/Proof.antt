@@ -1,19 +1,11 @@
 use borrow.Author.Tests.{not-true, not-false}
 use Rattle.shots.proofs.Held.{line-small}
 use Rattle.relations.proofs.Eighteen.{receiver-column, never-fine, eighteen-broken, eighteen-fine, ready}
-use Prim.Native.Nat.{ℕ, _+_, _-_, _*_, _≤_, _<_}
-use mathlib.Core.Path.{_≡_, refl, ap, sym, _∙_}
+use mathlib.Core.Path.{_∙_}
 use native.Mathlib.Omega.{arith}
-use lib.ListN.{length, take, drop, getD}
 use borrow.Author.Needs.{needs}
 use Rattle.relations.proofs.reach_fits.Statement.{statement}
 use Rattle.relations.proofs.reach_fits.Tie as tie
-use Rattle.relations.proofs.reach_fits.Reads as reads
-use Rattle.relations.proofs.reach_fits.Lts as lts
-use Rattle.lines.proofs.at_line.Reads as at-line-reads
-use Rattle.once.proofs.covered_once.Reads as covered-once-reads
-use Rattle.receivers.proofs.all_there.Reads as all-there-reads
-use Rattle.receivers.proofs.first_row.Reads as first-row-reads
 
 first-row-requires : tie.Need-first-row-requires
 first-row-requires c κs = let p = c .before .before .before .before .pre in ((p .receivers, p .rows), p .lines .1 _ (p .lines .0) (omega arith) .0)

@@ -7,24 +7,13 @@ use Rattle.form.proofs.Laws.{is-met, is-broken}
 use Rattle.relations.specs.Walk.{reachFits}
 use Rattle.relations.proofs.Parts.{mateFits, stops-shot, stops-record, stops-reach, all-fine}
 use Rattle.relations.proofs.Walked.{Walked, begins, line, missing-here, refuses, shot-fine, shot-next, waiting, walks-on}
-use Prim.Native.Nat.{ℕ, _+_, _-_, _*_, _≤_, _<_}
+use Prim.Native.Nat.{ℕ, _-_, _<_}
 use mathlib.Core.Path.{_≡_, refl, ap, sym, _∙_}
 use native.Mathlib.Omega.{arith}
 use borrow.Author.Needs.{needs}
-use lib.ListN.{length, take, drop, getD}
+use lib.ListN.{length}
 use Rattle.relations.proofs.relations_fit.Statement.{statement}
 use Rattle.relations.proofs.relations_fit.Tie as tie
-use Rattle.relations.proofs.relations_fit.Reads as reads
-use Rattle.relations.proofs.relations_fit.Lts as lts
-use Rattle.headers.proofs.heads.Reads as heads-reads
-use Rattle.lines.proofs.line_count.Reads as line-count-reads
-use Rattle.mates.proofs.goes_on.Reads as goes-on-reads
-use Rattle.mates.proofs.record_fits.Reads as record-fits-reads
-use Rattle.mates.proofs.starts.Reads as starts-reads
-use Rattle.once.proofs.clear.Reads as clear-reads
-use Rattle.relations.proofs.reach_fits.Reads as reach-fits-reads
-use Rattle.shots.proofs.missing.Reads as missing-reads
-use Rattle.shots.proofs.onward.Reads as onward-reads
 
 abbrev Inv-loop : tie.InvT-loop
 Inv-loop how r o s x apart t₀ end none k₀ place₀ start₀ t k place start =

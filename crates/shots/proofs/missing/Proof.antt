@@ -1,17 +1,10 @@
 use Rattle.shots.proofs.Places.{gone, gone-before}
 use Rattle.shots.proofs.Held.{line-small, source-column}
-use Prim.Native.Nat.{ℕ, _+_, _-_, _*_, _≤_, _<_}
-use mathlib.Core.Path.{_≡_, refl, ap, sym, _∙_}
+use mathlib.Core.Path.{_∙_}
 use native.Mathlib.Omega.{arith}
-use lib.ListN.{length, take, drop, getD}
 use borrow.Author.Needs.{needs}
 use Rattle.shots.proofs.missing.Statement.{statement}
 use Rattle.shots.proofs.missing.Tie as tie
-use Rattle.shots.proofs.missing.Reads as reads
-use Rattle.shots.proofs.missing.Lts as lts
-use Rattle.lines.proofs.at_line.Reads as at-line-reads
-use Rattle.lines.proofs.line_count.Reads as line-count-reads
-use Rattle.shots.proofs.onward.Reads as onward-reads
 
 onward-requires : tie.Need-onward-requires
 onward-requires c κs = let p = c .before .before .pre in ((p .shots .0, p .relations), p .line)

@@ -1,21 +1,15 @@
 use Rattle.shots.specs.Places.{namesKey}
-use mathlib.Core.Path.{_∙_, _≡_, ap, refl, sym}
+use mathlib.Core.Path.{_∙_, ap, sym}
 use Rattle.rules.specs.Layout.{Layout}
 use Rattle.lines.specs.Reading.{sheetOf}
 use Rattle.lines.proofs.Sheets.{layout-is}
 use Rattle.keys.specs.Keys.{shotKey}
-use Prim.Native.Nat.{ℕ, _+_, _-_, _*_, _≤_, _<_}
-use native.Mathlib.Omega.{arith}
-use lib.ListN.{length, take, drop, getD}
 use borrow.Author.Needs.{needs}
 use mathlib.Core.Bool.{false}
 use Rattle.keys.specs.declared.Key.{Key}
 use Rattle.keys.proofs.Compared.{first-other, second-other, third-same}
 use Rattle.shots.proofs.names.Statement.{statement}
 use Rattle.shots.proofs.names.Tie as tie
-use Rattle.shots.proofs.names.Reads as reads
-use Rattle.shots.proofs.names.Lts as lts
-use Rattle.keys.proofs.shot_key.Reads as shot-key-reads
 
 shot-key-requires : tie.Need-shot-key-requires
 shot-key-requires c κs = search needs

@@ -4,17 +4,12 @@ use Rattle.shots.proofs.Held.{held-at}
 use mathlib.Core.Bool.{true}
 use Rattle.lines.specs.Reading.{sheetOf}
 use Rattle.shots.specs.Places.{isShot, onward}
-use Prim.Native.Nat.{ℕ, _+_, _-_, _*_, _≤_, _<_}
-use mathlib.Core.Path.{_≡_, refl, ap, sym, _∙_}
+use Prim.Native.Nat.{ℕ, _-_, _≤_, _<_}
+use mathlib.Core.Path.{_≡_, sym, _∙_}
 use native.Mathlib.Omega.{arith}
 use borrow.Author.Needs.{needs}
-use lib.ListN.{length, take, drop, getD}
 use Rattle.shots.proofs.onward.Statement.{statement}
 use Rattle.shots.proofs.onward.Tie as tie
-use Rattle.shots.proofs.onward.Reads as reads
-use Rattle.shots.proofs.onward.Lts as lts
-use Rattle.keys.proofs.shot_key.Reads as shot-key-reads
-use Rattle.lines.proofs.line_count.Reads as line-count-reads
 
 abbrev Inv-loop : tie.InvT-loop
 Inv-loop s x k from y z n j₀ j =

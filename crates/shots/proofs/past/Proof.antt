@@ -2,18 +2,13 @@ use Rattle.rules.proofs.Tests.{clash}
 use Rattle.shots.proofs.Places.{from-first, from-none, past-more}
 use mathlib.Core.Bool.{not, true}
 use Rattle.lines.specs.Reading.{sheetOf}
-use Rattle.shots.specs.Places.{isShot, namesKey, pastOf}
-use Prim.Native.Nat.{ℕ, _+_, _-_, _*_, _≤_, _<_}
-use mathlib.Core.Path.{_≡_, refl, ap, sym, _∙_}
+use Rattle.shots.specs.Places.{namesKey, pastOf}
+use Prim.Native.Nat.{ℕ, _-_, _≤_, _<_}
+use mathlib.Core.Path.{_≡_, ap, sym, _∙_}
 use native.Mathlib.Omega.{arith}
 use borrow.Author.Needs.{needs}
-use lib.ListN.{length, take, drop, getD}
 use Rattle.shots.proofs.past.Statement.{statement}
 use Rattle.shots.proofs.past.Tie as tie
-use Rattle.shots.proofs.past.Reads as reads
-use Rattle.shots.proofs.past.Lts as lts
-use Rattle.lines.proofs.line_count.Reads as line-count-reads
-use Rattle.shots.proofs.names.Reads as names-reads
 
 abbrev Inv-loop : tie.InvT-loop
 Inv-loop how x j y n i₀ i = (j ≤ i) × ((m : ℕ) → j ≤ m → m < i → not (namesKey (sheetOf how x) y m) ≡ true → ⊥)

@@ -5,21 +5,12 @@ use Rattle.lines.specs.Reading.{sheetOf}
 use Rattle.form.proofs.Known.{formed}
 use Rattle.shots.proofs.Held.{line-small}
 use Rattle.shots.proofs.Named.{Passed, at-first, step-other, step-named, step-unnamed}
-use Prim.Native.Nat.{ℕ, _+_, _-_, _*_, _≤_, _<_}
-use mathlib.Core.Path.{_≡_, refl, ap, sym, _∙_}
+use Prim.Native.Nat.{ℕ, _-_, _≤_, _<_}
+use mathlib.Core.Path.{_≡_, ap, _∙_}
 use native.Mathlib.Omega.{arith}
 use borrow.Author.Needs.{needs}
-use lib.ListN.{length, take, drop, getD}
 use Rattle.shots.proofs.shots_named.Statement.{statement}
 use Rattle.shots.proofs.shots_named.Tie as tie
-use Rattle.shots.proofs.shots_named.Reads as reads
-use Rattle.shots.proofs.shots_named.Lts as lts
-use Rattle.headers.proofs.heads.Reads as heads-reads
-use Rattle.keys.proofs.key_of.Reads as key-of-reads
-use Rattle.keys.proofs.takes.Reads as takes-reads
-use Rattle.lines.proofs.at_line.Reads as at-line-reads
-use Rattle.lines.proofs.line_count.Reads as line-count-reads
-use Rattle.shots.proofs.past.Reads as past-reads
 
 abbrev Inv-loop : tie.InvT-loop
 Inv-loop how s x z n j₀ k₀ j k = (k ≤ n) × (Passed (sheetOf how s) (sheetOf how x) k j × (fine ≡ run (upTo k (rule15 (sheetOf how s) (sheetOf how x)))))

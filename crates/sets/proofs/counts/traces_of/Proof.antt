@@ -1,6 +1,5 @@
 -- `sets::counts::traces_of` meets its contract. Assumes nothing.
 use borrow.Author.Needs.{needs}
-use native.Mathlib.Omega.{arith}
 use Rattle.sets.proofs.Tally.{traces-none, traces-some}
 use Rattle.sets.proofs.counts.traces_of.Statement.{statement}
 use Rattle.sets.proofs.counts.traces_of.Tie as tie
