@@ -83,12 +83,24 @@ enum sps_file {
 uint64_t sps_check(const uint8_t *r, size_t r_len, const uint8_t *s, size_t s_len,
                    const uint8_t *x, size_t x_len);
 
+/* The places of the counts. */
+enum sps_place {
+    SPS_RECEIVERS = 0,
+    SPS_SHOTS = 1,
+    SPS_RELATIONS = 2, /* relation lines */
+    SPS_TRACES = 3
+};
+
 /*
- * Checks a set, and counts what it holds. Answers what sps_check does. The receivers, shots,
- * relation lines and traces of an accepted set go into counts; a refusal leaves it as it is.
+ * Checks a set, and counts what it holds. Answers what sps_check does, for every length of counts.
+ *
+ * A place of counts is eight bytes, the low one first; sps_count reads one. Of an accepted set the
+ * receivers, shots, relation lines and traces go into places 0 to 3, as far as counts has them
+ * whole: counts_len / 8 places, at most four. Every other byte stays, also the last ones that are
+ * too few for a place and all from byte 32 on. A refusal writes nothing. 32 bytes take all four.
  */
 uint64_t sps_counts(const uint8_t *r, size_t r_len, const uint8_t *s, size_t s_len,
-                    const uint8_t *x, size_t x_len, uint64_t counts[4]);
+                    const uint8_t *x, size_t x_len, uint8_t *counts, size_t counts_len);
 
 /*
  * From a trace to its receiver. Answers R line * 16 + component, 0 where there is no such trace, or
@@ -152,6 +164,16 @@ static inline unsigned sps_refusal_line(uint64_t refusal)
 static inline unsigned sps_refusal_column(uint64_t refusal)
 {
     return (unsigned)(refusal & 255);
+}
+
+/* The count in a place, from 0, of the counts that sps_counts has written. */
+static inline uint64_t sps_count(const uint8_t *counts, size_t place)
+{
+    uint64_t count = 0;
+    size_t left;
+    for (left = 8; left > 0; left--)
+        count = count << 8 | counts[8 * place + left - 1];
+    return count;
 }
 
 /* The parts of a trace that sps_trace answers: the line of R and the component. */

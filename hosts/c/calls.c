@@ -8,7 +8,7 @@ static const uint8_t tape[] = {'1', '0', '0', ' ', ' ', ' '};
 enum { LAST_HEADER = 21, FIRST, SECOND, THIRD };
 
 /* What stands in memory that is lent to be written. */
-enum { STAYS = 0xEE };
+enum { STAYS = 0xAA };
 
 /* Text over the columns of a line, from 1. */
 static void put(struct bytes file, size_t line, size_t column, const char *text)
@@ -16,29 +16,49 @@ static void put(struct bytes file, size_t line, size_t column, const char *text)
     memcpy(file.at + (line - 1) * 82 + column - 1, text, strlen(text));
 }
 
-/* The check, and the counts of a set that is refused, which stay. */
-static void refused(struct set set, uint64_t expected)
+/*
+ * The answer with counts: the places of a slice of some bytes that are written, and what they hold.
+ * All else stays, also a byte behind.
+ */
+static void counts(struct set set, size_t len, uint64_t expected, size_t places,
+                   const uint8_t *held)
 {
-    uint64_t counts[4] = {1, 2, 3, UINT64_MAX};
-    SAME(sps_check(FILES(set)), expected);
-    SAME(sps_counts(FILES(set), counts), expected);
-    SAME(counts[0], 1);
-    SAME(counts[1], 2);
-    SAME(counts[2], 3);
-    SAME(counts[3], UINT64_MAX);
+    uint8_t *bytes = (uint8_t *)malloc(len + 1);
+    size_t at;
+    memset(bytes, STAYS, len + 1);
+    SAME(sps_counts(FILES(set), bytes, len), expected);
+    for (at = 0; at < places; at++)
+        SAME(sps_count(bytes, at), held[at]);
+    for (at = 0; at < 8 * places; at++)
+        SAME(bytes[at], at % 8 == 0 ? held[at / 8] : 0);
+    for (at = 8 * places; at <= len; at++)
+        SAME(bytes[at], STAYS);
+    free(bytes);
 }
 
+/* The check, and the counts in slices of each length, of which so many places are written. */
+static void answers(struct set set, uint64_t expected, size_t places, const uint8_t *held)
+{
+    static const size_t lengths[] = {0, 7, 8, 15, 16, 31, 32, 33, 40};
+    size_t at;
+    SAME(sps_check(FILES(set)), expected);
+    for (at = 0; at < sizeof lengths / sizeof *lengths; at++) {
+        size_t whole = lengths[at] / 8;
+        counts(set, lengths[at], expected, whole < places ? whole : places, held);
+    }
+    SAME(sps_counts(FILES(set), NULL, 0), expected);
+}
+
+static void refused(struct set set, uint64_t expected)
+{
+    answers(set, expected, 0, NULL);
+}
+
+/* Set A has 3 receivers, 1 shot, 1 relation line and 3 traces. */
 static void accepted(struct set set)
 {
-    uint64_t counts[6] = {STAYS, STAYS, STAYS, STAYS, STAYS, STAYS};
-    SAME(sps_check(FILES(set)), 3);
-    SAME(sps_counts(FILES(set), counts + 1), 3);
-    SAME(counts[0], STAYS);
-    SAME(counts[1], 3);
-    SAME(counts[2], 1);
-    SAME(counts[3], 1);
-    SAME(counts[4], 3);
-    SAME(counts[5], STAYS);
+    static const uint8_t held[] = {3, 1, 1, 3};
+    answers(set, 3, 4, held);
 }
 
 /* The lookup and the way back. */
@@ -166,12 +186,16 @@ static void edits(struct set set)
 /* The parts of numbers at their ends. */
 static void parts(void)
 {
+    static const uint8_t number[] = {8,    7,    6,    5,    4,    3,    2,    1,
+                                     0xFE, 0xFF, 0xFF, 0xFF, 0xFF, 0xFF, 0xFF, 0xFF};
     SAME(sps_is_refused(0), 0);
     SAME(sps_is_refused((UINT64_C(1) << 40) - 1), 0);
     SAME(sps_is_refused(UINT64_C(1) << 40), 1);
     SAME(sps_refusal_number(refusal(21, 0, 0, 0)), SPS_SLICE_LENGTH);
     SAME(sps_refusal_line(refusal(2, 1, 10000, 0)), 10000);
     SAME(sps_refusal_column(refusal(3, 2, 9999, 82)), 82);
+    SAME(sps_count(number, 0), UINT64_C(0x0102030405060708));
+    SAME(sps_count(number, 1), UINT64_MAX - 1);
     SAME(sps_trace_line(9999 * 16 + 9), 9999);
     SAME(sps_trace_component(9999 * 16 + 9), 9);
 }

@@ -1,6 +1,7 @@
 // Every call of sps.h from C++, on set A. The argument is its folder.
 #include "sps.h"
-#include <array>
+#include <cstddef>
+#include <cstdint>
 #include <fstream>
 #include <iostream>
 #include <iterator>
@@ -38,9 +39,10 @@ struct Set {
     {
         return sps_check(r.data(), r.size(), s.data(), s.size(), x.data(), x.size());
     }
-    std::uint64_t counts(std::array<std::uint64_t, 4> &counts) const
+    std::uint64_t counts(Bytes &counts) const
     {
-        return sps_counts(r.data(), r.size(), s.data(), s.size(), x.data(), x.size(), counts.data());
+        return sps_counts(r.data(), r.size(), s.data(), s.size(), x.data(), x.size(), counts.data(),
+                          counts.size());
     }
     std::uint64_t trace(const Bytes &tape, std::uint64_t record, std::uint64_t channel) const
     {
@@ -62,17 +64,29 @@ struct Set {
     }
 };
 
+// The counts of set A in so many bytes, as far as there are whole places; all else stays.
+Bytes counted(std::size_t length)
+{
+    const std::uint8_t counts[] = {3, 1, 1, 3};
+    Bytes bytes(length, 0xAA);
+    for (std::size_t at = 0; at < length / 8 * 8 && at < 32; ++at)
+        bytes[at] = at % 8 == 0 ? counts[at / 8] : 0;
+    return bytes;
+}
+
 void answers(const Set &set)
 {
     const Bytes tape = {'1', '0', '0', ' ', ' ', ' '};
-    std::array<std::uint64_t, 4> counts = {{0, 0, 0, 0}};
-    const std::array<std::uint64_t, 4> expected = {{3, 1, 1, 3}};
     Bytes lines(9, 0xEE), components(4, 0xEE);
     const Bytes written = {FIRST, 0, SECOND, 0, THIRD, 0, 0xEE, 0xEE, 0xEE}, ones = {1, 1, 1, 0xEE};
 
     same("the check", set.check(), 3u);
-    same("the answer with counts", set.counts(counts), 3u);
-    same("the counts", counts, expected);
+    for (std::size_t length : {0, 7, 8, 15, 16, 31, 32, 33, 40}) {
+        Bytes counts(length, 0xAA);
+        same("the answer with counts", set.counts(counts), 3u);
+        same("the counts", counts, counted(length));
+    }
+    same("a count", sps_count(counted(32).data(), SPS_TRACES), 3u);
     const std::uint64_t trace = set.trace(tape, 11, 3);
     same("the R line", sps_trace_line(trace), THIRD);
     same("the component", sps_trace_component(trace), 1u);
@@ -87,8 +101,8 @@ void answers(const Set &set)
 
 void refusals(Set set)
 {
-    std::array<std::uint64_t, 4> counts = {{9, 9, 9, 9}};
-    const auto stays = counts;
+    Bytes counts(33, 0xAA);
+    const Bytes stays = counts;
     set.r.push_back('R');
     const std::uint64_t answer = set.counts(counts);
     same("is refused", sps_is_refused(answer), 1);

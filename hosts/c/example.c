@@ -18,7 +18,8 @@ static size_t read_file(const char *name, uint8_t *to)
 
 int main(int count, char **names)
 {
-    uint64_t answer, counts[4];
+    uint64_t answer;
+    uint8_t counts[32];
     size_t r_len, s_len, x_len;
     if (count != 4)
         return 2;
@@ -26,13 +27,14 @@ int main(int count, char **names)
     s_len = read_file(names[2], s);
     x_len = read_file(names[3], x);
 
-    answer = sps_counts(r, r_len, s, s_len, x, x_len, counts);
+    answer = sps_counts(r, r_len, s, s_len, x, x_len, counts, sizeof counts);
     if (sps_is_refused(answer)) {
         printf("refused with %u: file %u, line %u, column %u\n", sps_refusal_number(answer),
                sps_refusal_file(answer), sps_refusal_line(answer), sps_refusal_column(answer));
         return 1;
     }
-    printf("%lu receivers, %lu traces\n", (unsigned long)counts[0], (unsigned long)counts[3]);
+    printf("%lu receivers, %lu traces\n", (unsigned long)sps_count(counts, SPS_RECEIVERS),
+           (unsigned long)sps_count(counts, SPS_TRACES));
     answer = sps_trace(r, r_len, s, s_len, x, x_len, (const uint8_t *)"100   ", 6, 11, 2);
     printf("R line %u, component %u\n", sps_trace_line(answer), sps_trace_component(answer));
     return 0;

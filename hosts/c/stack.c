@@ -22,9 +22,9 @@ struct answers {
 static void *ask(void *lent)
 {
     struct answers *to = (struct answers *)lent;
-    uint64_t counts[4];
+    uint8_t counts[32];
     to->check = sps_check(FILES(to->set));
-    to->counts = sps_counts(FILES(to->set), counts);
+    to->counts = sps_counts(FILES(to->set), counts, sizeof counts);
     to->trace = sps_trace(FILES(to->set), tape, 6, to->record, 200);
     to->channel = sps_channel(FILES(to->set), tape, 6, to->record, 9999, 1);
     to->spread = sps_spread(FILES(to->set), tape, 6, to->record, lines, sizeof lines, components,

@@ -4,6 +4,7 @@ The arguments are a shared object made of the archive and the folder of set A.
 """
 
 import ctypes
+import struct
 import sys
 from pathlib import Path
 
@@ -22,7 +23,7 @@ def library(path):
     sps = ctypes.CDLL(path)
     types = {
         "sps_check": [],
-        "sps_counts": [ctypes.POINTER(U64)],
+        "sps_counts": BYTES,
         "sps_trace": RECORD + [U64],
         "sps_channel": RECORD + [U64, U64],
         "sps_spread": RECORD + BYTES + BYTES,
@@ -48,10 +49,10 @@ def refusal(number, file, line, column):
 def answers(sps, set_a):
     """What set A is answered."""
     record = [b"100   ", 6, 11]
-    counts = (U64 * 4)()
+    counts = (ctypes.c_uint8 * 33)(*[170] * 33)
     assert sps.sps_check(*set_a) == 3
-    assert sps.sps_counts(*set_a, counts) == 3
-    assert list(counts) == [3, 1, 1, 3]
+    assert sps.sps_counts(*set_a, counts, 33) == 3
+    assert bytes(counts) == struct.pack("<4QB", 3, 1, 1, 3, 170)
     assert sps.sps_trace(*set_a, *record, 2) == SECOND * 16 + 1
     assert sps.sps_channel(*set_a, *record, SECOND, 1) == 2
     assert sps.sps_trace(*set_a, *record, 4) == 0
@@ -65,11 +66,11 @@ def answers(sps, set_a):
 
 def refusals(sps, set_a):
     """What is refused, and what that leaves."""
-    counts = (U64 * 4)(1, 2, 3, 4)
+    counts = (ctypes.c_uint8 * 32)(*[170] * 32)
     r, r_len = set_a[:2]
     cut = [r, r_len - 1] + set_a[2:]
-    assert sps.sps_counts(*cut, counts) == refusal(1, 1, THIRD, 0)
-    assert list(counts) == [1, 2, 3, 4]
+    assert sps.sps_counts(*cut, counts, 32) == refusal(1, 1, THIRD, 0)
+    assert bytes(counts) == bytes([170] * 32)
     assert sps.sps_check(None, 0, None, 0, None, 0) == refusal(7, 1, 1, 0)
     assert sps.sps_trace(*set_a, b"100", 3, 11, 2) == refusal(20, 0, 0, 0)
     assert sps.sps_trace(*set_a, b"100   ", 6, 2**64 - 1, 2) == refusal(20, 0, 0, 0)

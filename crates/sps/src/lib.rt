@@ -16,6 +16,8 @@ use sets::Answer as SetAnswer;
 use traces::Answer;
 use traces::Spread;
 
+mod places;
+
 // A refusal as one number.
 fn pack(number: u8, place: u8, line: u32, column: u8) -> u64
     ensures value { λ n. ⌜ n ≡ packed (№ number place line column) ⌝ }
@@ -30,6 +32,16 @@ fn set_number(a: SetAnswer) -> u64
     match a {
         SetAnswer::Accepted(_, _, _, t) => t,
         SetAnswer::Refused(n, f, l, c) => pack(n, f, l, c),
+    }
+}
+
+// Puts the receivers, shots, relation lines and traces of an accepted set. A refusal writes nothing.
+fn put_counts(a: SetAnswer, counts: &mut [u8])
+    ensures written { λ _. ⌜ now (counts .exit) ≡ counted (setPaper a) (now (counts .entry)) ⌝ }
+{
+    match a {
+        SetAnswer::Accepted(n, m, k, t) => places::put_all(&[n, m, k, t], counts),
+        SetAnswer::Refused(_, _, _, _) => {}
     }
 }
 
@@ -63,20 +75,17 @@ pub extern "C" fn sps_check(r: &[u8], s: &[u8], x: &[u8]) -> u64
     set_number(sets::check(r, s, x))
 }
 
-// The same, and the receivers, shots, relation lines and traces of an accepted set in counts, which a refusal leaves as they are.
+// The same, and the receivers, shots, relation lines and traces of an accepted set in counts: places of eight bytes, low byte first, of
+// which those are written that counts has whole. A refusal writes nothing.
 #[no_mangle]
-pub extern "C" fn sps_counts(r: &[u8], s: &[u8], x: &[u8], counts: &mut [u64; 4]) -> u64
+pub extern "C" fn sps_counts(r: &[u8], s: &[u8], x: &[u8], counts: &mut [u8]) -> u64
     ensures answer { λ n. ⌜ n ≡ hostNumber (checkOf (file (now (r .entry))) (file (now (s .entry))) (file (now (x .entry)))) ⌝ }
     ensures written { λ _. ⌜ now (counts .exit)
         ≡ counted (checkOf (file (now (r .entry))) (file (now (s .entry))) (file (now (x .entry)))) (now (counts .entry)) ⌝ }
 {
-    match sets::check(r, s, x) {
-        SetAnswer::Accepted(n, m, k, t) => {
-            *counts = [n, m, k, t];
-            t
-        }
-        SetAnswer::Refused(n, f, l, c) => pack(n, f, l, c),
-    }
+    let a = sets::check(r, s, x);
+    put_counts(a, counts);
+    set_number(a)
 }
 
 // The lookup: R line * 16 + component, 0 for no trace.

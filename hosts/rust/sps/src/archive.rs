@@ -26,7 +26,8 @@ mod c {
             s_len: usize,
             x: *const u8,
             x_len: usize,
-            counts: *mut u64,
+            counts: *mut u8,
+            counts_len: usize,
         ) -> u64;
         pub fn sps_trace(
             r: *const u8,
@@ -76,11 +77,21 @@ pub fn check([r, s, x]: Files) -> u64 {
     unsafe { c::sps_check(r.as_ptr(), r.len(), s.as_ptr(), s.len(), x.as_ptr(), x.len()) }
 }
 
-pub fn counts([r, s, x]: Files, counts: &mut [u64; 4]) -> u64 {
-    let counts = counts.as_mut_ptr();
-    // SAFETY: each pointer and length are those of one slice, and `counts` has four
-    // places that are lent alone.
-    unsafe { c::sps_counts(r.as_ptr(), r.len(), s.as_ptr(), s.len(), x.as_ptr(), x.len(), counts) }
+pub fn counts([r, s, x]: Files, counts: &mut [u8]) -> u64 {
+    // SAFETY: each pointer and length are those of one slice, and the one that is
+    // written is lent alone.
+    unsafe {
+        c::sps_counts(
+            r.as_ptr(),
+            r.len(),
+            s.as_ptr(),
+            s.len(),
+            x.as_ptr(),
+            x.len(),
+            counts.as_mut_ptr(),
+            counts.len(),
+        )
+    }
 }
 
 pub fn trace([r, s, x]: Files, tape: &[u8], record: u64, channel: u64) -> u64 {

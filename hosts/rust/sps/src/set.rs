@@ -63,9 +63,9 @@ impl<'a> Set<'a> {
     /// # Ok::<(), Box<dyn std::error::Error>>(())
     /// ```
     pub fn check(&self) -> Result<Accepted, Refusal> {
-        let mut counts = [0; 4];
-        answer(archive::counts(self.files, &mut counts))?;
-        let [receivers, shots, relations, traces] = counts;
+        let mut counts = [[0; 8]; 4];
+        answer(archive::counts(self.files, counts.as_flattened_mut()))?;
+        let [receivers, shots, relations, traces] = counts.map(u64::from_le_bytes);
         Ok(Accepted { receivers, shots, relations, traces })
     }
 

@@ -1,10 +1,9 @@
 //! One set, both readers.
 
 use crate::answers::{naive, proved, Answer};
-use crate::archive;
+use crate::counts::compare_counts;
 use crate::keep::keep;
 use small_sets::Set;
-use sps::Accepted;
 
 /// Holds the readers together on a set, and returns what they agree on.
 pub fn compare(set: &Set, how: &str) -> Answer {
@@ -17,20 +16,11 @@ pub fn compare(set: &Set, how: &str) -> Answer {
     proved
 }
 
-/// The same; and the call without counts answers alike, and a refusal leaves counts.
+/// The same; and the calls with and without counts answer alike.
 pub fn compare_calls(set: &Set, how: &str) -> Answer {
-    const BEFORE: [u64; 4] = [u64::MAX, 1 << 63, 0x5555, u64::MAX - 1];
     let answer = compare(set, how);
-    let Set { r, s, x } = set;
-    let mut counts = BEFORE;
-    let number = archive::counts([r, s, x], &mut counts);
-    let expected = answer.map_or(BEFORE, |accepted| {
-        let Accepted { receivers, shots, relations, traces } = accepted;
-        [receivers, shots, relations, traces]
-    });
-    assert_eq!(counts, expected, "the counts, {how}");
-    assert_eq!(archive::check([r, s, x]), number, "the call without counts, {how}");
-    let traces = sps::Set::new(r, s, x).traces();
+    compare_counts(set, answer, 33, how);
+    let traces = sps::Set::new(&set.r, &set.s, &set.x).traces();
     assert_eq!(traces, answer.map(|accepted| accepted.traces), "the traces, {how}");
     answer
 }

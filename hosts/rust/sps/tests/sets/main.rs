@@ -12,6 +12,7 @@ mod answers;
 mod archive;
 mod columns;
 mod compare;
+mod counts;
 mod damaged;
 mod examples;
 mod full;
@@ -19,4 +20,6 @@ mod hostile;
 #[path = "../common/keep.rs"]
 mod keep;
 mod lengths;
+#[path = "../common/lent.rs"]
+mod lent;
 mod threads;
