@@ -1,3 +1,4 @@
 pub mod Placed
+pub mod Counts
 pub mod One
 pub mod Demands

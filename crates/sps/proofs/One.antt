@@ -2,6 +2,20 @@
 use mathlib.Core.Path.{refl, sym, ap, _∙_}
 use Rattle.rules.specs.Hosts.{hostNumber}
 use Rattle.outcome.specs.One.{One, both}
+use Rattle.sps.proofs.pack as pack
+use Rattle.sps.proofs.pack.Reads as pack-reads
+use Rattle.sps.proofs.set_number as set-number
+use Rattle.sps.proofs.set_number.Reads as set-number-reads
+use Rattle.sps.proofs.put_counts as put-counts
+use Rattle.sps.proofs.put_counts.Reads as put-counts-reads
+use Rattle.sps.proofs.question_number as question-number
+use Rattle.sps.proofs.question_number.Reads as question-number-reads
+use Rattle.sps.proofs.spread_number as spread-number
+use Rattle.sps.proofs.spread_number.Reads as spread-number-reads
+use Rattle.sps.proofs.places.put as places-put
+use Rattle.sps.proofs.places.put.Reads as places-put-reads
+use Rattle.sps.proofs.places.put_all as places-put-all
+use Rattle.sps.proofs.places.put_all.Reads as places-put-all-reads
 use Rattle.sps.proofs.sps_check as sps-check
 use Rattle.sps.proofs.sps_check.Reads as sps-check-reads
 use Rattle.sps.proofs.sps_counts as sps-counts
@@ -12,6 +26,27 @@ use Rattle.sps.proofs.sps_channel as sps-channel
 use Rattle.sps.proofs.sps_channel.Reads as sps-channel-reads
 use Rattle.sps.proofs.sps_spread as sps-spread
 use Rattle.sps.proofs.sps_spread.Reads as sps-spread-reads
+
+pub pack-one : One pack.ended pack-reads.Post
+pack-one κs a v v′ w w′ p p′ = (p ∙ sym p′, refl)
+
+pub set-number-one : One set-number.ended set-number-reads.Post
+set-number-one κs a v v′ w w′ p p′ = (p ∙ sym p′, refl)
+
+pub put-counts-one : One put-counts.ended put-counts-reads.Post
+put-counts-one κs a v v′ w w′ p p′ = (refl, both refl (both (p ∙ sym p′) refl))
+
+pub question-number-one : One question-number.ended question-number-reads.Post
+question-number-one κs a v v′ w w′ p p′ = (p ∙ sym p′, refl)
+
+pub spread-number-one : One spread-number.ended spread-number-reads.Post
+spread-number-one κs a v v′ w w′ p p′ = (p ∙ sym p′, refl)
+
+pub places-put-one : One places-put.ended places-put-reads.Post
+places-put-one κs a v v′ w w′ p p′ = (refl, both refl (both refl (both (p ∙ sym p′) refl)))
+
+pub places-put-all-one : One places-put-all.ended places-put-all-reads.Post
+places-put-all-one κs a v v′ w w′ p p′ = (refl, both refl (both (p ∙ sym p′) refl))
 
 pub sps-check-one : One sps-check.ended sps-check-reads.Post
 sps-check-one κs a v v′ w w′ p p′ = (p ∙ sym p′, refl)

@@ -1,0 +1,145 @@
+-- What a host finds in the slice of counts afterwards.
+--   valueOf bs, readAt i o  = the number of some bytes, low byte first; of place i
+--   length-stays            = the slice is as long as before
+--   count-at                = place i of an accepted set is its count i, where the slice has that place whole
+--   beyond-stays            = every byte from a place on that is not written is as before
+--   refusal-stays           = and every byte, where the set is refused
+use Prim.Native.Nat.{ℕ, zero, suc, _+_, _*_, _/_, _^_, _≤_, _<_}
+use native.Mathlib.Nat.{pow-succ'}
+use native.Mathlib.Omega.{arith}
+use mathlib.Core.Path.{_≡_, refl, sym, ap, subst, _∙_}
+use mathlib.Core.Bool.{Bool, true, false}
+use mathlib.Core.List.{List, [], _∷_, _++_}
+use lib.ListN.{length, getD, take, drop, replicate, length-drop}
+use lib.Seq.{take-at, drop-at, drop-drop}
+use Rattle.rules.specs.Places.{pick, count}
+use Rattle.rules.specs.Plan.{Refusal}
+use Rattle.rules.specs.Sheet.{mostLines}
+use Rattle.rules.specs.Disc.{disc, file}
+use Rattle.rules.specs.Layout.{sps93}
+use Rattle.rules.specs.Lines.{isData, isPoint}
+use Rattle.rules.specs.Check.{Answer, accepted, refusal, trace, channel, highest, noTrace, check}
+use Rattle.rules.proofs.Counts.{accepted-is, which, which-length}
+use Rattle.rules.proofs.Hosts.{Sized, check-sized}
+use Rattle.sps.specs.Counts.{lowBytes, placed, counted}
+use Rattle.sps.proofs.Placed.{or-less, low-length, placed-whole, placed-short, placed-none, placed-length}
+
+abbrev pub valueOf : List ℕ → ℕ
+valueOf [] = 0
+valueOf (b ∷ bs) = b + 256 * valueOf bs
+
+abbrev pub readAt : ℕ → List ℕ → ℕ
+readAt i o = valueOf (take 8 (drop (8 * i) o))
+
+-- 258 receivers in a slice of nine bytes, by computation
+nine-bytes : counted (accepted 258 1 1 3) (replicate 9 170) ≡ 2 ∷ 1 ∷ 0 ∷ 0 ∷ 0 ∷ 0 ∷ 0 ∷ 0 ∷ 170 ∷ []
+unfolding counted placed lowBytes pick
+nine-bytes = refl
+
+-- a number of n bytes comes back
+low-value : (n v : ℕ) → v < 256 ^ n → valueOf (lowBytes n v) ≡ v
+unfolding lowBytes
+low-value zero v h = omega arith
+low-value (suc n) v h =
+    let p = pow-succ' 256 n in
+    let i = low-value n (v / 256) (omega arith) in
+    omega arith
+
+-- the places after the first
+after-first : (i v : ℕ) (vs o : List ℕ) → 8 ≤ length o → drop (8 * suc i) (placed (v ∷ vs) o) ≡ drop (8 * i) (placed vs (drop 8 o))
+after-first i v vs o h =
+    let n : 8 * suc i ≡ 8 + 8 * i = omega arith in
+    let rest = placed vs (drop 8 o) in
+    rw (n, placed-whole v vs o h, ← drop-drop (8 * i) 8 (lowBytes 8 v ++ rest), drop-at (lowBytes 8 v) rest 8 (low-length 8 v))
+
+placed-at : (i : ℕ) (vs o : List ℕ) → i < length vs → 8 * i + 8 ≤ length o → take 8 (drop (8 * i) (placed vs o)) ≡ lowBytes 8 (getD vs i 0)
+placed-at i [] o h l = absurd (omega arith)
+placed-at zero (v ∷ vs) o h l =
+    rw (placed-whole v vs o (omega arith), take-at (lowBytes 8 v) (placed vs (drop 8 o)) 8 (low-length 8 v))
+placed-at (suc i) (v ∷ vs) o h l =
+    rw (after-first i v vs o (omega arith)) (placed-at i vs (drop 8 o) (omega arith) (simp length-drop (omega arith)))
+
+placed-beyond : (i : ℕ) (vs o : List ℕ) → (i < length vs → length o < 8 * i + 8) → drop (8 * i) (placed vs o) ≡ drop (8 * i) o
+placed-beyond i [] o h = ap (drop (8 * i)) (placed-none o)
+placed-beyond zero (v ∷ vs) o h = placed-short (v ∷ vs) o (h (omega arith))
+placed-beyond (suc i) (v ∷ vs) o h =
+    or-less 8 (length o)
+    (λ l.
+    let n : 8 + 8 * i ≡ 8 * suc i = omega arith in
+    after-first i v vs o l
+    ∙ placed-beyond i vs (drop 8 o) (λ g. let f = h (omega arith) in simp length-drop (omega arith))
+    ∙ drop-drop (8 * i) 8 o ∙ ap (λ (k : ℕ). drop k o) n)
+    (λ l. ap (drop (8 * suc i)) (placed-short (v ∷ vs) o l))
+
+-- an answer writes the four counts or nothing
+counted-view : (P : List ℕ → List ℕ → Type 0) → ((n m k t : ℕ) (o : List ℕ) → P o (placed (n ∷ m ∷ k ∷ t ∷ []) o)) → ((o : List ℕ) → P o o)
+    → (a : Answer) (o : List ℕ) → P o (counted a o)
+unfolding counted
+counted-view P f g (accepted n m k t) o = f n m k t o
+counted-view P f g (refusal w) o = g o
+counted-view P f g (trace l m) o = g o
+counted-view P f g (channel c) o = g o
+counted-view P f g (highest c) o = g o
+counted-view P f g noTrace o = g o
+
+-- the counts of an accepted set are far below 2^64
+one-few : (b : Bool) → pick b 1 0 ≤ 1
+unfolding pick
+one-few true = omega arith
+one-few false = omega arith
+
+count-few : (n : ℕ) (p : ℕ → Bool) → count n p ≤ n
+unfolding count
+count-few zero p = omega arith
+count-few (suc n) p =
+    let i = count-few n p in
+    let j = one-few (p n) in
+    omega arith
+
+which-few : (n c : ℕ) (p : ℕ → Bool) → n ≤ 9999 → length (which n p) ≡ c → c < 256 ^ 8
+which-few n c p h e =
+    let f = count-few n p in
+    let g = which-length n p in
+    omega arith
+
+each : (n m k t : ℕ) → n < 256 ^ 8 → m < 256 ^ 8 → k < 256 ^ 8 → t < 256 ^ 8 → (i : ℕ) → getD (n ∷ m ∷ k ∷ t ∷ []) i 0 < 256 ^ 8
+each n m k t a b c d zero = a
+each n m k t a b c d (suc zero) = b
+each n m k t a b c d (suc (suc zero)) = c
+each n m k t a b c d (suc (suc (suc zero))) = d
+each n m k t a b c d (suc (suc (suc (suc i)))) = omega arith
+
+module _ (r s x : List ℕ) where
+  counts-few : (n m k t : ℕ) → check (file r) (file s) (file x) ≡ accepted n m k t → (i : ℕ) → getD (n ∷ m ∷ k ∷ t ∷ []) i 0 < 256 ^ 8
+  unfolding mostLines disc sps93
+  counts-few n m k t q =
+      let w = accepted-is (file r) (file s) (file x) n m k t .0 q in
+      let ok = w .0 in
+      let c = w .1 in
+      let few : t < 2 ^ 40 = subst Sized q (check-sized r s x) in
+      each n m k t (which-few _ n (isPoint (file r)) (ok .formR .rule2) (c .receivers)) (which-few _ m (isPoint (file s)) (ok .formS .rule2) (c .shots))
+      (which-few _ k (isData (file x)) (ok .formX .rule2) (c .relations)) (omega arith)
+
+  -- o stands in the slice before the call, and e afterwards
+  module _ (o e : List ℕ) (w : e ≡ counted (check (file r) (file s) (file x)) o) where
+    pub length-stays : length e ≡ length o
+    length-stays =
+        rw w
+        (counted-view (λ o e. length e ≡ length o) (λ n m k t o. placed-length (n ∷ m ∷ k ∷ t ∷ []) o) (λ o. refl)
+        (check (file r) (file s) (file x)) o)
+
+    pub count-at : (n m k t : ℕ) → check (file r) (file s) (file x) ≡ accepted n m k t
+        → (i : ℕ) → i < 4 → 8 * i + 8 ≤ length o → readAt i e ≡ getD (n ∷ m ∷ k ∷ t ∷ []) i 0
+    unfolding counted
+    count-at n m k t q i h l =
+        rw (w, q, placed-at i (n ∷ m ∷ k ∷ t ∷ []) o (omega arith) l) (low-value 8 _ (counts-few n m k t q i))
+
+    pub beyond-stays : (i : ℕ) → (i < 4 → length o < 8 * i + 8) → drop (8 * i) e ≡ drop (8 * i) o
+    beyond-stays i h =
+        rw w
+        (counted-view (λ o e. (i < 4 → length o < 8 * i + 8) → drop (8 * i) e ≡ drop (8 * i) o)
+        (λ n m k t o. placed-beyond i (n ∷ m ∷ k ∷ t ∷ []) o) (λ o h. refl) (check (file r) (file s) (file x)) o h)
+
+    pub refusal-stays : (v : Refusal) → check (file r) (file s) (file x) ≡ refusal v → e ≡ o
+    unfolding counted
+    refusal-stays v q = rw q at w
