@@ -23,7 +23,9 @@ use Rattle.rules.specs.Relations.{reach, relation, reachAt, relationAt}
 use Rattle.rules.proofs.Columns.{cols-length}
 use Rattle.rules.proofs.Sizes.{small-more, whole-small}
 use Rattle.rules.proofs.Breach.{run-met}
-use Rattle.rules.proofs.Form.{Formed, form-is}
+use Rattle.rules.specs.MeetsForm.{Formed}
+use Rattle.rules.proofs.Form.{clean-stray}
+use Rattle.rules.proofs.Meets.{form-is}
 use Rattle.lines.specs.declared.Reading.{Reading}
 use Rattle.lines.specs.Reading.{sheetOf}
 use Rattle.lines.proofs.Sheets.{layout-is, row-small}
@@ -64,7 +66,7 @@ known how i f m =
     let w = met-formed i (sheetOf how f) m in
     record {
       few = w .rule2;
-      clean = λ k h. row-small how f k h (w .rule3 k h);
+      clean = λ k h. row-small how f k h (clean-stray (sheetOf how f) k .1 (w .rule3 k h));
       met = m;
       shape = rw (layout-is how f) sps93-shape;
     }

@@ -13,7 +13,7 @@ use Rattle.rules.specs.Layout.{Layout}
 use Rattle.rules.specs.Sheet.{Sheet, mostLines}
 use Rattle.rules.specs.Lines.{letter, isHeader}
 use Rattle.rules.specs.Relations.{reach}
-use Rattle.rules.specs.Form.{rule1, rule2, rule3, rule4, rule6, lineFits}
+use Rattle.rules.specs.Form.{stray, rule1, rule2, rule3, rule4, rule6, lineFits}
 use Rattle.rules.proofs.Breach.{run-met}
 use Rattle.rules.proofs.Steps.{need-met, need-broken, before-met, before-broken, when-on, when-off}
 use Rattle.lines.specs.declared.Verdict.{Verdict}
@@ -83,7 +83,7 @@ module _ (L : Layout) (i k : ℕ) (l : List ℕ) where
     six-relation n x v p = p ∙ when-on _ _ (rw (← q, n, eq-eqb i 3 x))
 
 -- 3, then the rest of a line
-module _ (f : Sheet) (i k c : ℕ) (e : c ≡ f .stray k) where
+module _ (f : Sheet) (i k c : ℕ) (e : c ≡ stray f k) where
   pub line-stray : (c ≡ 0 → ⊥) → refused (№ 3 i (k + 1) c) ≡ run (lineFits i f k)
   unfolding lineFits rule3
   line-stray n = before-broken _ _ _ (rw (← e) (need-broken _ _ (ne-eqb c 0 n)))

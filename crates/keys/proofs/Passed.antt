@@ -15,8 +15,9 @@ use Rattle.rules.specs.Rows.{pointRows, relationRows}
 use Rattle.rules.specs.Points.{point, pointAt, numberOf}
 use Rattle.rules.specs.Relations.{reach, reachAt, relation, relationAt}
 use Rattle.rules.proofs.Numbers.{whole-is}
-use Rattle.rules.proofs.Fields.{Reads}
-use Rattle.rules.proofs.Form.{FieldsRead, data-is, point-is}
+use Rattle.rules.specs.MeetsFields.{Reads}
+use Rattle.rules.specs.MeetsForm.{FieldsRead}
+use Rattle.rules.proofs.Form.{data-is, point-is}
 use Rattle.fields.specs.Figures.{figures}
 use Rattle.fields.proofs.LowHalves.{figures-whole}
 use Rattle.form.specs.Known.{Known}

@@ -12,10 +12,11 @@ use Rattle.rules.specs.Places.{pick}
 use Rattle.rules.specs.Plan.{fine, refused, №, run, _before_}
 use Rattle.rules.specs.Sheet.{Sheet, mostLines}
 use Rattle.rules.specs.Form.{rule1, rule2}
-use Rattle.rules.specs.Disc.{byteFits, strayFrom}
+use Rattle.rules.specs.Disc.{byteFits}
+use Rattle.rules.specs.Form.{strayFrom}
 use Rattle.rules.proofs.Tests.{more}
 use Rattle.rules.proofs.Steps.{need-met, need-broken, before-met, before-broken}
-use Rattle.rules.proofs.Disc.{Proper}
+use Rattle.rules.specs.MeetsDisc.{Proper}
 use Rattle.lines.specs.Reading.{Printed}
 
 -- the first c columns of l are those of f from a on
@@ -46,7 +47,7 @@ rest-step f a w c h l =
     ap (take (w - c)) (drop-cons f (a + c) 0 (omega arith) ∙ ap (λ (m : ℕ). getD f (a + c) 0 ∷ drop m f) n)
     ∙ ap (λ (m : ℕ). take m (getD f (a + c) 0 ∷ drop (a + (c + 1)) f)) e
 
-module _ (f : List ℕ) (a w c X : ℕ) (e : strayFrom (c + 1) (take (w - c) (drop (a + c) f)) ≡ X) where
+module _ (f : List ℕ) (a w c X : ℕ) (e : strayFrom byteFits (c + 1) (take (w - c) (drop (a + c) f)) ≡ X) where
   pub stray-end : w ≤ c → 0 ≡ X
   unfolding strayFrom
   stray-end h = let z : w - c ≡ 0 = omega arith in (rw z) ∙ e
@@ -56,10 +57,10 @@ module _ (f : List ℕ) (a w c X : ℕ) (e : strayFrom (c + 1) (take (w - c) (dr
     unfolding strayFrom pick
     stray-stop n = (rw (rest-step f a w c h l, ← q, n)) ∙ e
 
-    pub stray-step : t ≡ true → strayFrom (c + 1 + 1) (take (w - (c + 1)) (drop (a + (c + 1)) f)) ≡ X
+    pub stray-step : t ≡ true → strayFrom byteFits (c + 1 + 1) (take (w - (c + 1)) (drop (a + (c + 1)) f)) ≡ X
     unfolding strayFrom pick
     stray-step y =
-        ap (λ (m : ℕ). strayFrom m (take (w - (c + 1)) (drop (a + (c + 1)) f))) (add-one (c + 1)) ∙ (rw (rest-step f a w c h l, ← q, y)) ∙ e
+        ap (λ (m : ℕ). strayFrom byteFits m (take (w - (c + 1)) (drop (a + (c + 1)) f))) (add-one (c + 1)) ∙ (rw (rest-step f a w c h l, ← q, y)) ∙ e
 
 -- the c bytes from a on are printable where the greatest of them, less 32, is at most 94
 abbrev pub PrintedTo : List ℕ → ℕ → ℕ → ℕ → Type 0

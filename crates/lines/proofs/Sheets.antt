@@ -15,9 +15,11 @@ use lib.ListN.{length, getD, take, drop}
 use borrow.Author.Tests.{ltb-true, lt-ltb}
 use Rattle.rules.specs.Text.{col}
 use Rattle.rules.specs.Layout.{sps93}
-use Rattle.rules.specs.Disc.{disc, file, strayFrom}
+use Rattle.rules.specs.Disc.{byteFits, disc, file}
+use Rattle.rules.specs.Form.{strayFrom, stray}
 use Rattle.rules.proofs.Tests.{yes-no}
-use Rattle.rules.proofs.Disc.{Proper, row-at, room as disc-room, row-length as disc-length, clean-is}
+use Rattle.rules.specs.MeetsDisc.{Proper}
+use Rattle.rules.proofs.Disc.{row-at, room as disc-room, row-length as disc-length, clean-is}
 use Rattle.lines.specs.Reading.{strideOn, strideOf, sheetOn, sheetOf}
 use Rattle.lines.specs.declared.Medium.{Medium}
 use Rattle.lines.specs.declared.Medium.the-variants.{Disc}
@@ -49,7 +51,7 @@ beyond [] c h = refl
 beyond (x ∷ xs) zero h = absurd (omega arith)
 beyond (x ∷ xs) (suc c) h = beyond xs c (omega arith)
 
-disc-small : (f : List ℕ) (k : ℕ) → k < file f .count → file f .stray k ≡ 0 → (c : ℕ) → getD (file f .row k) c 0 < 256
+disc-small : (f : List ℕ) (k : ℕ) → k < file f .count → stray (file f) k ≡ 0 → (c : ℕ) → getD (file f .row k) c 0 < 256
 unfolding col
 disc-small f k h s c =
     yes-no (ltb c 80)
@@ -76,7 +78,7 @@ module _ (how : Reading) (f : List ℕ) (k : ℕ) (h : k < sheetOf how f .count)
   pub row-length : length (sheetOf how f .row k) ≡ 80
   row-length = rw (sheet-is how f) (disc-length sps93 f k on-disc)
 
-  pub row-small : sheetOf how f .stray k ≡ 0 → (c : ℕ) → getD (sheetOf how f .row k) c 0 < 256
+  pub row-small : stray (sheetOf how f) k ≡ 0 → (c : ℕ) → getD (sheetOf how f .row k) c 0 < 256
   row-small s = rw (sheet-is how f) (disc-small f k on-disc (rw (sheet-is how f) at s))
 
 -- the same of a stride that the code has at hand
@@ -98,13 +100,13 @@ module _ (how : Reading) (w : ℕ) (e : w ≡ strideOf how) where
       unfolding disc
       row-from = rw (width, sheet-is how f)
 
-      pub stray-from : strayFrom 1 (take w (drop (w * k) f)) ≡ sheetOf how f .stray k
-      unfolding disc
+      pub stray-from : strayFrom byteFits 1 (take w (drop (w * k) f)) ≡ stray (sheetOf how f) k
+      unfolding stray disc
       stray-from = rw (width, sheet-is how f)
 
       module _ (h : k < sheetOf how f .count) where
         pub place : (w ≡ 82) × (w * k + w ≤ length f)
         place = (width, rw width (room how f k h))
 
-        pub clean-from : ((c : ℕ) → c < 82 → Proper (c + 1) (getD f (w * k + c) 0)) → sheetOf how f .stray k ≡ 0
+        pub clean-from : ((c : ℕ) → c < 82 → Proper (c + 1) (getD f (w * k + c) 0)) → stray (sheetOf how f) k ≡ 0
         clean-from g = rw (sheet-is how f) (clean-is sps93 f k (on-disc how f k h) .1 (rw width at g))

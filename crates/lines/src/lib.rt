@@ -8,7 +8,7 @@ ghost use denote.Ref.{ptr};
 ghost use Rattle.rules.specs.Places.{pick};
 ghost use Rattle.rules.specs.Plan.{refused, №, run, _before_};
 ghost use Rattle.rules.specs.Disc.{byteFits};
-ghost use Rattle.rules.specs.Form.{rule1, rule2};
+ghost use Rattle.rules.specs.Form.{stray as strayOf, rule1, rule2};
 ghost use Rattle.rules.specs.Show.{shown as columnsOf, start, ofS, show as showOf, startIn};
 ghost use Rattle.lines.specs.Paper.{paper, into};
 ghost use Rattle.lines.specs.Reading.{onDisc, strideOf, sheetOf, Printed};
@@ -140,7 +140,7 @@ fn all_printed(f: &[u8], at: usize) -> bool
 // Line k has no byte outside its range.
 fn is_clean(how: Reading, f: &[u8], k: usize) -> bool
     requires { ⌜ k < sheetOf how (now f) .count ⌝ }
-    ensures value { λ t. ⌜ (t ≡ true → sheetOf how (now (f .entry)) .stray k ≡ 0) ⌝ }
+    ensures value { λ t. ⌜ (t ≡ true → strayOf (sheetOf how (now (f .entry))) k ≡ 0) ⌝ }
 {
     let at = stride(how) * k;
     if f[at + 80] != 13 {
@@ -155,7 +155,7 @@ fn is_clean(how: Reading, f: &[u8], k: usize) -> bool
 // 3 of line k, column by column.
 fn first_stray(how: Reading, f: &[u8], k: usize) -> u8
     requires { ⌜ k < sheetOf how (now f) .count ⌝ }
-    ensures value { λ c. ⌜ c ≡ sheetOf how (now (f .entry)) .stray k ⌝ }
+    ensures value { λ c. ⌜ c ≡ strayOf (sheetOf how (now (f .entry))) k ⌝ }
 {
     let w = stride(how);
     let at = w * k;
@@ -172,7 +172,7 @@ fn first_stray(how: Reading, f: &[u8], k: usize) -> u8
 // 3 of line k: the lowest of its columns whose byte is outside its range, or 0.
 pub fn stray(how: Reading, f: &[u8], k: usize) -> u8
     requires { ⌜ k < sheetOf how (now f) .count ⌝ }
-    ensures value { λ c. ⌜ c ≡ sheetOf how (now (f .entry)) .stray k ⌝ }
+    ensures value { λ c. ⌜ c ≡ strayOf (sheetOf how (now (f .entry))) k ⌝ }
 {
     if is_clean(how, f, k) {
         return 0;

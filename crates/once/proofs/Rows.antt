@@ -20,7 +20,8 @@ use Rattle.rules.specs.Order.{isPointAt, receiversThere}
 use Rattle.rules.proofs.Tests.{says, clash, and-is, some-is, every-is, imp-is, not-is}
 use Rattle.rules.proofs.Steps.{every-stop}
 use Rattle.rules.proofs.Form.{point-is}
-use Rattle.rules.proofs.Cover.{Covers, covers-is, every-receiver, meet-is}
+use Rattle.rules.specs.MeetsCover.{Covers}
+use Rattle.rules.proofs.Cover.{covers-is, every-receiver, meet-is}
 use Rattle.rules.proofs.Order.{point-at-is}
 use Rattle.order.specs.Sorted.{nth}
 use Rattle.order.specs.Listed.{Placed}

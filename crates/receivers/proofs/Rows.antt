@@ -26,7 +26,8 @@ use Rattle.rules.proofs.Least.{least-first, least-none, least-there, least-belo
 use Rattle.rules.proofs.Breach.{run-met}
 use Rattle.rules.proofs.Form.{point-is}
 use Rattle.rules.proofs.Above.{above-self}
-use Rattle.rules.proofs.Order.{at-is, rule10-is, Rule10}
+use Rattle.rules.specs.MeetsSet.{Rule10}
+use Rattle.rules.proofs.Order.{at-is, rule10-is}
 use Rattle.rules.proofs.Accepted.{receivers-rise}
 use Rattle.keys.specs.declared.Key.{Key}
 use Rattle.keys.specs.declared.By.the-variants.{Receivers}
@@ -49,7 +50,7 @@ abbrev pub rowValue : Sheet → List ℕ → ℕ → ℕ
 rowValue r o e = value (keyAt Receivers r (nth o e))
 
 module _ (r : Sheet) (w : KnownReceivers r) where
-  pub ten : Rule10 r
+  pub ten : (k : ℕ) → k < r .count → Rule10 r k
   ten = rule10-is r .0 (run-met (upTo (r .count) (rule10 r)) .0 (sym (w .1)))
 
   apart : (j k : ℕ) → j < k → k < r .count → takesAt Receivers r j ≡ true → takesAt Receivers r k ≡ true

@@ -1,7 +1,4 @@
 -- The order of receivers: by line name bytes, point, index. Rule 10 says it of neighbours, and it holds of any two.
---   Less a b         = a comes before b by bytes
---   LessName rank    = the same of names, by the medium's own bytes
---   Above rank v w   = v stands above w
 use Prim.Native.Nat.{ℕ, zero, suc, _+_, _≤_, _<_}
 use native.Mathlib.Omega.{arith}
 use mathlib.Core.Path.{_≡_, refl, _∙_}
@@ -15,13 +12,9 @@ use Rattle.rules.specs.Text.{less}
 use Rattle.rules.specs.Names.{Name, text, sameName, ranked, lessName}
 use Rattle.rules.specs.Points.{Point}
 use Rattle.rules.specs.Order.{above}
+use Rattle.rules.specs.MeetsSet.{Less, LessName, Above}
 use Rattle.rules.proofs.Tests.{clash, and-is, or-is, eqb-is, ltb-is, same-name-is}
 use Rattle.rules.proofs.Least.{least-is}
-
-abbrev pub Less : List ℕ → List ℕ → Type 0
-Less xs [] = ⊥
-Less [] (y ∷ ys) = Unit {0}
-Less (x ∷ xs) (y ∷ ys) = (x < y) ⊎ ((x ≡ y) × Less xs ys)
 
 pub less-is : (a b : List ℕ) → (less a b ≡ true) ↔ Less a b
 unfolding less
@@ -49,9 +42,6 @@ less-self [] l = l
 less-self (x ∷ xs) (inl l) = omega arith
 less-self (x ∷ xs) (inr l) = less-self xs (l .1)
 
-abbrev pub LessName : (ℕ → ℕ) → Name → Name → Type 0
-LessName rank (text a) (text b) = Less (ranked rank a) (ranked rank b)
-
 less-name-is : (rank : ℕ → ℕ) (a b : Name) → (lessName rank a b ≡ true) ↔ LessName rank a b
 unfolding lessName
 less-name-is rank (text a) (text b) = less-is (ranked rank a) (ranked rank b)
@@ -61,11 +51,6 @@ name-trans rank (text a) (text b) (text c) l m = less-trans (ranked rank a) (ran
 
 name-self : (rank : ℕ → ℕ) (a : Name) → LessName rank a a → ⊥
 name-self rank (text a) l = less-self (ranked rank a) l
-
-abbrev pub Above : (ℕ → ℕ) → Point → Point → Type 0
-Above rank v w =
-    LessName rank (w .name) (v .name)
-    ⊎ ((w .name ≡ v .name) × ((w .number < v .number) ⊎ ((w .number ≡ v .number) × (w .index < v .index))))
 
 pub above-is : (rank : ℕ → ℕ) (v w : Point) → (above rank v w ≡ true) ↔ Above rank v w
 unfolding above

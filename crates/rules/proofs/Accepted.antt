@@ -13,16 +13,19 @@ use Rattle.rules.specs.Points.{pointAt, numberOf, indexAt}
 use Rattle.rules.specs.Relations.{Reach, reach, reachAt}
 use Rattle.rules.specs.Rows.{relationRows}
 use Rattle.rules.specs.Order.{lineOfPoint, receiverLine}
+use Rattle.rules.specs.MeetsFields.{InRange, Index, Whole}
+use Rattle.rules.specs.MeetsForm.{Data, Point, FieldsRead}
+use Rattle.rules.specs.MeetsCover.{Covers, Carries}
+use Rattle.rules.specs.MeetsSet.{Above, PointAt, Receiver, Mates, Rule10}
+use Rattle.rules.specs.Meets.{Meets}
+use Rattle.rules.specs.MeetsQuestions.{Of}
 use Rattle.rules.proofs.Tests.{more}
 use Rattle.rules.proofs.Least.{least-first, least-there}
-use Rattle.rules.proofs.Fields.{InRange, Index, index-value, index-range, whole-size}
-use Rattle.rules.proofs.Numbers.{Whole}
-use Rattle.rules.proofs.Form.{Data, Point, point-is, FieldsRead}
-use Rattle.rules.proofs.Above.{Above, above-trans, above-self, chained}
-use Rattle.rules.proofs.Cover.{Covers, Carries, Sound}
-use Rattle.rules.proofs.Order.{PointAt, point-at-is, Receiver, Mates, Rule10}
-use Rattle.rules.proofs.Meets.{Meets}
-use Rattle.rules.proofs.Search.{Of}
+use Rattle.rules.proofs.Fields.{index-value, index-range, whole-size}
+use Rattle.rules.proofs.Form.{point-is}
+use Rattle.rules.proofs.Above.{above-trans, above-self, chained}
+use Rattle.rules.proofs.Cover.{Sound}
+use Rattle.rules.proofs.Order.{point-at-is}
 
 -- the value that is kept of a number or an index that reads
 number-in : (l : List ℕ) (s : Span) (a b : ℕ) → InRange Whole a b (at l s) → (a ≤ numberOf l s) × (numberOf l s ≤ b)
@@ -34,7 +37,7 @@ unfolding indexAt
 index-in l s w = rw (index-value _ (w .0) (w .1)) (index-range _ (w .0) (w .1))
 
 -- receivers stand in strict order, so a receiver stands in one line
-module _ (r : Sheet) (rule10 : Rule10 r) where
+module _ (r : Sheet) (rule10 : (k : ℕ) → k < r .count → Rule10 r k) where
   pub receivers-rise : (j k : ℕ) → j < k → k < r .count → Point r j → Point r k → Above (r .rank) (pointAt r k) (pointAt r j)
   receivers-rise j k l h a b =
       chained (r .count) (isPoint r) (λ j k. Above (r .rank) (pointAt r k) (pointAt r j))

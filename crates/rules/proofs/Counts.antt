@@ -1,7 +1,6 @@
 -- The counts on acceptance are those of the set: of its receivers, shots and relation lines, and the sum of T - F + 1 over these.
 --   which n p     = the places below n that pass, each once, in their order
---   Rising l      = each is above the one before it
---   total g l     = the sum of g over a list
+--   rising-one    = lines in their order are told by which they are
 --   accepted-is   = the check accepts with four numbers exactly when Meets holds and they are those
 use Prim.Native.Nat.{ℕ, zero, suc, _+_, _<_}
 use native.Mathlib.Nat.{not-suc-le-zero, add-zero, zero-add}
@@ -9,7 +8,8 @@ use native.Mathlib.Omega.{arith}
 use mathlib.Core.Path.{_≡_, refl, sym, ap, ap₂, _∙_}
 use mathlib.Core.Logic.{_↔_, _⊎_, ⊎-elim}
 use mathlib.Core.Bool.{Bool, true, false}
-use mathlib.Core.List.{List, [], _∷_, _++_, List·Memᴰ, List·Memᴰ·head, Memᴰ·append-left, Memᴰ·append-right, List·Memᴰ·append-cases, List·Memᴰ·eq-of-singleton, List·Memᴰ·not-nil}
+use mathlib.Core.List.{List, [], _∷_, _++_, List·Memᴰ, List·Memᴰ·head, List·Memᴰ·tail, Memᴰ·append-left, Memᴰ·append-right}
+use mathlib.Core.List.{List·Memᴰ·append-cases, List·Memᴰ·cases-cons, List·Memᴰ·eq-of-singleton, List·Memᴰ·not-nil}
 use lib.ListN.{length, length-append}
 use Rattle.rules.specs.Places.{pick, count, sum}
 use Rattle.rules.specs.Sheet.{Sheet}
@@ -17,9 +17,11 @@ use Rattle.rules.specs.Lines.{isData, isPoint}
 use Rattle.rules.specs.Relations.{reachAt}
 use Rattle.rules.specs.Cover.{traces}
 use Rattle.rules.specs.Check.{accepted, verdict, points, relations, allTraces, check}
+use Rattle.rules.specs.MeetsForm.{Data, Point}
+use Rattle.rules.specs.Meets.{Meets, Rising, Lines, total, Totals}
 use Rattle.rules.proofs.Tests.{clash, more}
-use Rattle.rules.proofs.Form.{Data, Point, data-is, point-is}
-use Rattle.rules.proofs.Meets.{Meets, verdict-meets}
+use Rattle.rules.proofs.Form.{data-is, point-is}
+use Rattle.rules.proofs.Meets.{verdict-meets}
 use Rattle.rules.proofs.Demand3.{Answered, answered}
 
 unfoldable pub if : Bool → ℕ → List ℕ
@@ -29,10 +31,6 @@ if false n = []
 unfoldable pub which : ℕ → (ℕ → Bool) → List ℕ
 which zero p = []
 which (suc n) p = which n p ++ if (p n) n
-
-abbrev pub Rising : List ℕ → Type 0
-Rising [] = Unit {0}
-Rising (a ∷ l) = ((b : ℕ) → List·Memᴰ b l → a < b) × Rising l
 
 one-or-none : (b : Bool) (n k : ℕ) → List·Memᴰ k (if b n) ↔ ((k ≡ n) × (b ≡ true))
 unfolding if
@@ -83,10 +81,6 @@ unfolding which count
 which-length zero p = refl
 which-length (suc n) p = length-append (which n p) (if (p n) n) ∙ ap₂ _+_ (which-length n p) (if-length (p n) n)
 
-abbrev pub total : (ℕ → ℕ) → List ℕ → ℕ
-total g [] = 0
-total g (k ∷ l) = g k + total g l
-
 total-append : (g : ℕ → ℕ) (l m : List ℕ) → total g (l ++ m) ≡ total g l + total g m
 total-append g [] m = sym (zero-add (total g m))
 total-append g (k ∷ l) m = let ih = total-append g l m in omega arith
@@ -101,52 +95,82 @@ unfolding which sum
 which-total zero p g = refl
 which-total (suc n) p g = total-append g (which n p) (if (p n) n) ∙ ap₂ _+_ (which-total n p g) (if-total g (p n) n)
 
--- the lines of a file that are receivers or shots, and relation lines
-abbrev pub pointLines : Sheet → List ℕ
-pointLines f = which (f .count) (isPoint f)
+-- lines in their order are told by which they are
+same-head : (a b : ℕ) (l m : List ℕ) → Rising (a ∷ l) → Rising (b ∷ m) → List·Memᴰ a (b ∷ m) → List·Memᴰ b (a ∷ l) → a ≡ b
+same-head a b l m r q u v =
+    ⊎-elim (λ e. e)
+    (λ i. ⊎-elim (λ e. sym e) (λ j. absurd (let g = q .0 a i in let h = r .0 b j in omega arith)) (List·Memᴰ·cases-cons v))
+    (List·Memᴰ·cases-cons u)
 
-abbrev pub relationLines : Sheet → List ℕ
-relationLines x = which (x .count) (isData x)
+later-in : (a b : ℕ) (l m : List ℕ) → Rising (a ∷ l) → a ≡ b → ((k : ℕ) → List·Memᴰ k (a ∷ l) → List·Memᴰ k (b ∷ m))
+    → (k : ℕ) → List·Memᴰ k l → List·Memᴰ k m
+later-in a b l m r e f k i =
+    ⊎-elim (λ q. absurd (let g = r .0 k i in omega arith)) (λ j. j) (List·Memᴰ·cases-cons (f k (List·Memᴰ·tail i)))
 
-pub point-lines : (f : Sheet) (k : ℕ) → List·Memᴰ k (pointLines f) ↔ ((k < f .count) × Point f k)
-point-lines f k =
-    let b = which-are (f .count) (isPoint f) k in
-    let p = point-is f k in
-    (λ m. let w = b .0 m in (w .0, p .0 (w .1)), λ w. b .1 (w .0, p .1 (w .1)))
+pub rising-one : (l m : List ℕ) → Rising l → Rising m → ((k : ℕ) → List·Memᴰ k l → List·Memᴰ k m)
+    → ((k : ℕ) → List·Memᴰ k m → List·Memᴰ k l) → l ≡ m
+rising-one [] [] r q f g = refl
+rising-one [] (b ∷ m) r q f g = absurd (List·Memᴰ·not-nil (g b (List·Memᴰ·head refl)))
+rising-one (a ∷ l) [] r q f g = absurd (List·Memᴰ·not-nil (f a (List·Memᴰ·head refl)))
+rising-one (a ∷ l) (b ∷ m) r q f g =
+    let e = same-head a b l m r q (f a (List·Memᴰ·head refl)) (g b (List·Memᴰ·head refl)) in
+    ap₂ (λ (c : ℕ) (n : List ℕ). c ∷ n) e
+    (rising-one l m (r .1) (q .1) (later-in a b l m r e f) (later-in b a m l q (sym e) g))
 
-pub relation-lines : (x : Sheet) (k : ℕ) → List·Memᴰ k (relationLines x) ↔ ((k < x .count) × Data x k)
-relation-lines x k =
-    let b = which-are (x .count) (isData x) k in
-    let p = data-is x k in
-    (λ m. let w = b .0 m in (w .0, p .0 (w .1)), λ w. b .1 (w .0, p .1 (w .1)))
+-- the lines of a file of which a test passes
+module _ (f : Sheet) (p : ℕ → Bool) (P : ℕ → Type 0) (is : (k : ℕ) → (p k ≡ true) ↔ P k) where
+  lines-are : Lines f P (which (f .count) p)
+  lines-are = (
+    which-rise (f .count) p,
+    λ k.
+        let b = which-are (f .count) p k in
+        (λ m. let w = b .0 m in (w .0, is k .0 (w .1)), λ w. b .1 (w .0, is k .1 (w .1))),
+  )
+
+  lines-one : (l : List ℕ) → Lines f P l → l ≡ which (f .count) p
+  lines-one l w =
+      let b = lines-are in
+      rising-one l (which (f .count) p) (w .0) (b .0) (λ k m. b .1 k .1 (w .1 k .0 m)) (λ k m. w .1 k .1 (b .1 k .0 m))
+
+  pub how-many : (a : ℕ) → ((l : List ℕ) × Lines f P l × (length l ≡ a)) ↔ (count (f .count) p ≡ a)
+  how-many a =
+      let n = which-length (f .count) p in (
+        λ w. sym n ∙ ap length (sym (lines-one (w .0) (w .1))) ∙ w .2,
+        λ e. (which (f .count) p, lines-are, n ∙ e),
+      )
+
+  pub how-much : (g : ℕ → ℕ) (a b : ℕ)
+      → ((l : List ℕ) × Lines f P l × (length l ≡ a) × (total g l ≡ b)) ↔ ((count (f .count) p ≡ a) × (sum (f .count) (λ k. pick (p k) (g k) 0) ≡ b))
+  how-much g a b =
+      let n = which-length (f .count) p in
+      let t = which-total (f .count) p g in (
+        λ w.
+            let e = sym (lines-one (w .0) (w .1)) in
+            (sym n ∙ ap length e ∙ w .2, sym t ∙ ap (total g) e ∙ w .3),
+        λ e. (which (f .count) p, lines-are, n ∙ e .0, t ∙ e .1),
+      )
 
 accepted-answered : (a b c d : ℕ) → Answered (accepted a b c d)
 accepted-answered a b c d w e = let z : _≡_ {A = ℕ} 0 1 = cc in omega arith
 
-pub record Counted (r s x : Sheet) (a b c d : ℕ) : Type 0 where
-  pub receivers : length (pointLines r) ≡ a
-  pub shots : length (pointLines s) ≡ b
-  pub relations : length (relationLines x) ≡ c
-  pub traces : total (λ k. traces (reachAt x k)) (relationLines x) ≡ d
-
-pub accepted-is : (r s x : Sheet) (a b c d : ℕ) → (check r s x ≡ accepted a b c d) ↔ (Meets r s x × Counted r s x a b c d)
+pub accepted-is : (r s x : Sheet) (a b c d : ℕ) → (check r s x ≡ accepted a b c d) ↔ (Meets r s x × Totals r s x a b c d)
 unfolding check points relations allTraces
 accepted-is r s x a b c d =
     let w = answered (verdict r s x) (accepted (points r) (points s) (relations x) (allTraces x)) _ (accepted-answered a b c d) in
     let m = verdict-meets r s x in
-    let lr = which-length (r .count) (isPoint r) in
-    let ls = which-length (s .count) (isPoint s) in
-    let lx = which-length (x .count) (isData x) in
-    let tx = which-total (x .count) (isData x) (λ k. traces (reachAt x k)) in (
+    let lr = how-many r (isPoint r) (Point r) (point-is r) a in
+    let ls = how-many s (isPoint s) (Point s) (point-is s) b in
+    let lx = how-much x (isData x) (Data x) (data-is x) (λ k. traces (reachAt x k)) c d in (
       λ e.
           let v = w .0 e in
           let f = v .1 in
-          (m .0 (v .0), record { receivers = lr ∙ (cc); shots = ls ∙ (cc); relations = lx ∙ (cc); traces = tx ∙ (cc) }),
+          (m .0 (v .0), record { receivers = lr .1 (cc); shots = ls .1 (cc); relations = lx .1 ((cc), (cc)) }),
       λ y.
           let n = y .1 in
-          let p = sym lr ∙ n .receivers in
-          let q = sym ls ∙ n .shots in
-          let u = sym lx ∙ n .relations in
-          let v = sym tx ∙ n .traces in
+          let p = lr .0 (n .receivers) in
+          let q = ls .0 (n .shots) in
+          let u = lx .0 (n .relations) in
+          let u0 = u .0 in
+          let u1 = u .1 in
           w .1 (m .1 (y .0), cc),
     )

@@ -1,10 +1,9 @@
 -- The arithmetic of one relation line: its channels against its receivers and components.
---   Covers q n      = receiver number n is covered
---   Carries q c     = channel c is
 --   meet-overlap    = two lines cover one receiver where each begins before the other ends
 --   Sound q         = what 5 and 6 leave of a relation line
 use Prim.Native.Nat.{ℕ, suc, _+_, _-_, _*_, _/_, _%_, _≤_, _<_}
-use native.Mathlib.Nat.{div-lt-iff-lt-mul, div-add-mod', mod-lt, mul-add-div-right, mul-add-mod-self-right, div-eq-of-lt, mod-eq-of-lt, mul-le-mul-right, suc-mul, add-sub-cancel-left, add-sub-cancel}
+use native.Mathlib.Nat.{div-lt-iff-lt-mul, div-add-mod', mod-lt, mul-add-div-right, mul-add-mod-self-right, div-eq-of-lt}
+use native.Mathlib.Nat.{mod-eq-of-lt, mul-le-mul-right, suc-mul, add-sub-cancel-left, add-sub-cancel}
 use native.Mathlib.Omega.{arith}
 use mathlib.Core.Path.{_≡_, sym, ap, _∙_, subst}
 use mathlib.Core.Logic.{_↔_, Iff·rfl}
@@ -15,17 +14,13 @@ use Rattle.rules.specs.Places.{every, some}
 use Rattle.rules.specs.Names.{sameName}
 use Rattle.rules.specs.Relations.{Reach}
 use Rattle.rules.specs.Cover.{traces, carries, receivers, receiverOn, covers, leads, component, channelOf, meet}
+use Rattle.rules.specs.MeetsCover.{Covers, Carries, Reached, Meet}
 use Rattle.rules.proofs.Tests.{says, agree, and-is, every-is, some-is, yes-no}
-
-abbrev pub Covers : Reach → ℕ → Type 0
-Covers q n = (q .fromReceiver ≤ n) × (n ≤ q .toReceiver)
+use Rattle.rules.proofs.Contrary.{not-every}
 
 pub covers-is : (q : Reach) (n : ℕ) → (covers q n ≡ true) ↔ Covers q n
 unfolding covers
 covers-is q n = simp says Iff·rfl
-
-abbrev pub Carries : Reach → ℕ → Type 0
-Carries q c = (q .from ≤ c) × (c ≤ q .upto)
 
 pub carries-is : (q : Reach) (c : ℕ) → (carries q c ≡ true) ↔ Carries q c
 unfolding carries
@@ -42,6 +37,14 @@ module _ (q : Reach) (p : ℕ → Bool) where
         λ f. b .1 (λ d h. f (q .fromReceiver + d) (omega arith, omega arith)),
       )
 
+  pub not-every-receiver : (every (receivers q) (λ d. p (receiverOn q d)) ≡ true → ⊥) ↔ ((n : ℕ) × Covers q n × (p n ≡ true → ⊥))
+  unfolding receivers receiverOn
+  not-every-receiver =
+      let b = not-every (receivers q) (λ d. p (receiverOn q d)) in (
+        λ f. let w = b .0 f in let h = w .1 in (q .fromReceiver + w .0, (omega arith, omega arith), w .2),
+        λ w e. w .2 (every-receiver .0 e (w .0) (w .1)),
+      )
+
   pub some-receiver : (some (receivers q) (λ d. p (receiverOn q d)) ≡ true) ↔ ((n : ℕ) × Covers q n × (p n ≡ true))
   unfolding receivers receiverOn
   some-receiver =
@@ -56,10 +59,6 @@ module _ (q : Reach) (p : ℕ → Bool) where
               subst (λ (n : ℕ). p n ≡ true) (let z : w .0 ≡ q .fromReceiver + (w .0 - q .fromReceiver) = omega arith in z) (w .2),
             ),
       )
-
-abbrev pub Meet : Reach → Reach → Type 0
-Meet p q =
-    (p .receiver ≡ q .receiver) × ((p .receiverIndex ≡ q .receiverIndex) × ((n : ℕ) × Covers p n × Covers q n))
 
 pub meet-is : (p q : Reach) → (meet p q ≡ true) ↔ Meet p q
 unfolding meet
@@ -112,10 +111,6 @@ pub record Sound (mostChannel : ℕ) (q : Reach) : Type 0 where
   pub numbers : q .fromReceiver ≤ q .toReceiver
   pub even : traces q % q .step ≡ 0
   pub fit : traces q / q .step ≡ receivers q
-
--- a receiver number and component that the line reaches
-abbrev pub Reached : Reach → ℕ → ℕ → Type 0
-Reached q n m = Covers q n × ((1 ≤ m) × (m ≤ q .step))
 
 module _ (most : ℕ) (q : Reach) (w : Sound most q) where
   all : q .upto + 1 - q .from ≡ (q .toReceiver + 1 - q .fromReceiver) * q .step

@@ -1,62 +1,39 @@
--- The disc form in the paper's words: what 1 to 3 say of a file's bytes, and the columns of a line as bytes of the file.
---   Proper c b   = byte b may stand in column c of the 82
+-- The disc form: what its columns are as bytes of the file, and 3 of a line in words.
 --   row-at       = column c + 1 of line k is byte 82 * k + c of the file
---   clean-is     = 3 of line k says that each of its bytes is proper
+--   clean-is     = no byte of line k is stray exactly where each of its bytes is proper
+--   takes-is     = and so says 3
 --   askable      = the tapes and records of an accepted set can be asked for
-use Prim.Native.Nat.{ℕ, zero, suc, _+_, _-_, _*_, _≤_, _<_}
-use native.Mathlib.Nat.{add-sub-cancel, not-suc-le-zero}
+use Prim.Native.Nat.{ℕ, _+_, _-_, _*_, _≤_, _<_}
+use native.Mathlib.Nat.{add-sub-cancel}
 use native.Mathlib.Omega.{arith}
-use mathlib.Core.Path.{_≡_, refl, ap, _∙_, subst}
-use mathlib.Core.Logic.{_↔_, Iff·rfl}
+use mathlib.Core.Path.{_≡_, sym, ap, _∙_, subst}
+use mathlib.Core.Logic.{_↔_, Iff·trans, Iff·rfl}
 use mathlib.Core.Bool.{true}
-use mathlib.Core.List.{List, [], _∷_}
+use mathlib.Core.List.{List}
 use lib.Dec.{lit≤}
 use lib.ListN.{length, getD, take, drop, length-take, length-drop}
 use lib.Seq.{getD-take, getD-drop}
 use Rattle.rules.specs.Text.{col, cols}
 use Rattle.rules.specs.Layout.{Layout, sps93, at}
 use Rattle.rules.specs.Sheet.{Sheet}
-use Rattle.rules.specs.Disc.{printable, byteFits, strayFrom, disc, file}
+use Rattle.rules.specs.Disc.{printable, byteFits, disc, file}
+use Rattle.rules.specs.Form.{stray}
 use Rattle.rules.specs.Points.{numberOf}
 use Rattle.rules.specs.Relations.{reach, reachAt}
 use Rattle.rules.specs.Rows.{relationRows}
-use Rattle.rules.proofs.Tests.{says, yes-no, pick-is}
+use Rattle.rules.specs.MeetsForm.{Rule3}
+use Rattle.rules.specs.MeetsDisc.{Proper, Clean}
+use Rattle.rules.specs.Meets.{Meets}
+use Rattle.rules.proofs.Tests.{says}
 use Rattle.rules.proofs.Columns.{cols-length, cols-at}
 use Rattle.rules.proofs.Fields.{whole-size}
-use Rattle.rules.proofs.Meets.{Meets}
+use Rattle.rules.proofs.Form.{stray-none, clean-stray}
 use Rattle.rules.proofs.Accepted.{fields}
 use Rattle.rules.proofs.Demand3.{Askable}
-
-abbrev pub Printable : ℕ → Type 0
-Printable b = (32 ≤ b) × (b ≤ 126)
-
-abbrev pub Proper : ℕ → ℕ → Type 0
-Proper c b = (c ≤ 80 → Printable b) × ((c ≤ 80 → ⊥) → (c ≡ 81 → b ≡ 13) × ((c ≡ 81 → ⊥) → b ≡ 10))
 
 pub proper-is : (c b : ℕ) → (byteFits c b ≡ true) ↔ Proper c b
 unfolding byteFits printable
 proper-is c b = simp says Iff·rfl
-
-pub stray-is : (c : ℕ) (bs : List ℕ) → 1 ≤ c → (strayFrom c bs ≡ 0) ↔ ((i : ℕ) → i < length bs → Proper (c + i) (getD bs i 0))
-unfolding strayFrom
-stray-is c [] o = (λ e i h. absurd (not-suc-le-zero h), λ f. refl)
-stray-is c (b ∷ bs) o =
-    let u = pick-is (byteFits c b) (strayFrom (suc c) bs) c 0 in
-    let p = proper-is c b in
-    let ih = stray-is (suc c) bs (omega arith) in (
-      λ e. each c b bs (p .0 (yes-no (byteFits c b) (λ t. t) (λ t. absurd (let z = u .0 e .1 t in omega arith))))
-          (ih .0 (yes-no (byteFits c b) (λ t. u .0 e .0 t) (λ t. absurd (let z = u .0 e .1 t in omega arith)))),
-      λ f.
-          u .1 (
-            (λ t. ih .1 (λ i h. subst (λ (m : ℕ). Proper m (getD bs i 0)) (let z : c + suc i ≡ suc c + i = omega arith in z) (f (suc i) (omega arith)))),
-            λ t. absurd (t (p .1 (subst (λ (m : ℕ). Proper m b) (let z : c + 0 ≡ c = omega arith in z) (f 0 (omega arith))))),
-          ),
-    )
-  where
-    each : (c b : ℕ) (bs : List ℕ) → Proper c b → ((i : ℕ) → i < length bs → Proper (suc c + i) (getD bs i 0))
-        → (i : ℕ) → i < length (b ∷ bs) → Proper (c + i) (getD (b ∷ bs) i 0)
-    each c b bs p f zero h = subst (λ (m : ℕ). Proper m b) (let z : c ≡ c + 0 = omega arith in z) p
-    each c b bs p f (suc i) h = subst (λ (m : ℕ). Proper m (getD bs i 0)) (let z : suc c + i ≡ c + suc i = omega arith in z) (f i (omega arith))
 
 module _ (L : Layout) (f : List ℕ) where
   pub row-at : (k c : ℕ) → c < 80 → col (disc L f .row k) (c + 1) ≡ getD f (82 * k + c) 0
@@ -73,21 +50,33 @@ module _ (L : Layout) (f : List ℕ) where
     unfolding disc
     row-length = let r = room k h in simp (length-take, length-drop) (omega arith)
 
-    pub clean-is : (disc L f .stray k ≡ 0) ↔ ((c : ℕ) → c < 82 → Proper (c + 1) (getD f (82 * k + c) 0))
-    unfolding disc
+    pub clean-is : (stray (disc L f) k ≡ 0) ↔ ((c : ℕ) → c < 82 → Proper (c + 1) (getD f (82 * k + c) 0))
+    unfolding stray disc
     clean-is =
         let r = room k h in
         let n : length (take 82 (drop (82 * k) f)) ≡ 82 = simp (length-take, length-drop) (omega arith) in
-        let b = stray-is 1 (take 82 (drop (82 * k) f)) (lit≤ tt) in (
-          λ e c l.
-              subst (λ (m : ℕ). Proper m (getD f (82 * k + c) 0)) (let z : 1 + c ≡ c + 1 = omega arith in z)
-              (rw (getD-take, getD-drop) at (b .0 e c (omega arith))),
+        let b = stray-none byteFits 1 (take 82 (drop (82 * k) f)) (lit≤ tt) in
+        let p : (c : ℕ) → c < 82 → (byteFits (1 + c) (getD (take 82 (drop (82 * k) f)) c 0) ≡ true) ↔ Proper (c + 1) (getD f (82 * k + c) 0) =
+        λ c l.
+        rw (getD-take, getD-drop)
+        (subst (λ (m : ℕ). (byteFits (1 + c) (getD f (82 * k + c) 0) ≡ true) ↔ Proper m (getD f (82 * k + c) 0))
+        (let z : 1 + c ≡ c + 1 = omega arith in z) (proper-is (1 + c) _)) in
+        (λ e c l. p c l .0 (b .0 e c (omega arith)), λ g. b .1 (λ c l. let q : c < 82 = omega arith in p c q .1 (g c q)))
+
+    -- 3 of a line, spelled out
+    pub takes-is : Rule3 (disc L f) k ↔ Clean f k
+    takes-is =
+        let b = clean-is in
+        let d = clean-stray (disc L f) k in (
+          λ g c o l.
+              let q : c - 1 + 1 ≡ c = omega arith in
+              subst (λ (m : ℕ). Proper m (getD f (82 * k + (c - 1)) 0)) q (b .0 (d .1 g) (c - 1) (omega arith)),
           λ g.
-              b .1
+              d .0
+              (b .1
               (λ c l.
-              let l' : c < 82 = omega arith in
-              rw (getD-take, getD-drop)
-              (subst (λ (m : ℕ). Proper m (getD f (82 * k + c) 0)) (let z : c + 1 ≡ 1 + c = omega arith in z) (g c l'))),
+              let z : c + 1 - 1 ≡ c = omega arith in
+              subst (λ (m : ℕ). Proper (c + 1) (getD f (82 * k + m) 0)) z (g (c + 1) (omega arith) (omega arith)))),
         )
 
 pub askable : (r s : Sheet) (x : List ℕ) → Meets r s (file x) → Askable (file x)
@@ -97,7 +86,7 @@ askable r s x ok k h z =
     let w = fields r s (file x) ok k h z in
     let m = cols-length l 2 (lit≤ tt) 7 in
     let v = w .1 .0 (λ e. e .1) in
-    let c = clean-is sps93 x k h .0 (ok .formX .rule3 k h) in (
+    let c = clean-is sps93 x k h .0 (clean-stray (file x) k .1 (ok .formX .rule3 k h)) in (
       m,
       (
         (λ i g.

@@ -1,8 +1,4 @@
--- Each rule of a field in the paper's words, and that its test says just that.
---   Blank bs       = all columns are blank
---   Index b v      = the index in byte b has the value v
---   Decimal, MinusDecimal bs n = n tenths, without and with a minus
---   Reads k bs     = the bytes obey the rule k
+-- The test of each rule of a field says what `MeetsFields` has in words.
 use Prim.Native.Nat.{ℕ, _-_, _≤_}
 use Prim.Native.String.{String, [] as empty, _∷_ as _∷ₛ_}
 use Prim.Native.Char.{code as ascii}
@@ -19,15 +15,13 @@ use Rattle.rules.specs.Places.{pick}
 use Rattle.rules.specs.Plan.{fileR}
 use Rattle.rules.specs.Text.{col, same, blank, bytes, oneOf}
 use Rattle.rules.specs.Numbers.{Number, malformed, plus, minus, digits, whole, signed, then, decimal, size, value}
-use Rattle.rules.specs.Kinds.{Kind, startsNonBlank, digitsOnly, coordinate, index, waterDepth, time, wholeNumber, signedNumber, signedDecimal, decimalNumber, code, mayBeBlank, formed, between, within, allDigits, digit1, indexOf, family, isCode, water, isTime, fits}
+use Rattle.rules.specs.Kinds.{Kind, startsNonBlank, digitsOnly, coordinate, index, waterDepth, time, wholeNumber, signedNumber}
+use Rattle.rules.specs.Kinds.{signedDecimal, decimalNumber, code, mayBeBlank, formed, between, within, allDigits, digit1, indexOf}
+use Rattle.rules.specs.Kinds.{family, isCode, water, isTime, fits}
+use Rattle.rules.specs.MeetsFields.{Digits, Figures, Whole, Minus, Tenths, Decimal, MinusDecimal, InRange, SignedRange, Blank, Index}
+use Rattle.rules.specs.MeetsFields.{OneOf, Family, Code, WaterDepth, Time, Reads}
 use Rattle.rules.proofs.Tests.{says, clash, and-is, or-is, pick-is, same-is}
-use Rattle.rules.proofs.Numbers.{no-plus, no-minus, Digits, digit-is, Figures, digits-are, Whole, Minus, whole-is, signed-plus, signed-minus, Tenths, then-plus, then-minus, decimal-is}
-
-abbrev pub Decimal : List ℕ → ℕ → Type 0
-Decimal = Tenths Whole
-
-abbrev pub MinusDecimal : List ℕ → ℕ → Type 0
-MinusDecimal = Tenths Minus
+use Rattle.rules.proofs.Numbers.{no-plus, no-minus, digit-is, digits-are, whole-is, signed-plus, signed-minus, then-plus, then-minus, decimal-is}
 
 tenths : {P Q : List ℕ → ℕ → Type 0} → ((ws : List ℕ) (m : ℕ) → P ws m ↔ Q ws m) → (bs : List ℕ) (n : ℕ) → Tenths P bs n ↔ Tenths Q bs n
 tenths f bs n = (
@@ -75,10 +69,6 @@ within-is a b (minus n) = (
       (λ u. let p = u .1 in let q : n ≡ u .0 = cc in simp says (rw q (u .2))) w,
 )
 
--- blanks, digits alone, an index
-abbrev pub Blank : List ℕ → Type 0
-Blank bs = bs ≡ replicate (length bs) 32
-
 pub blank-is : (bs : List ℕ) → (blank bs ≡ true) ↔ Blank bs
 unfolding blank
 blank-is [] = (λ e. refl, λ e. refl)
@@ -95,9 +85,6 @@ pub all-digits-is : (bs : List ℕ) → (allDigits bs ≡ true) ↔ Digits bs
 unfolding allDigits
 all-digits-is [] = (λ e. tt, λ e. refl)
 all-digits-is (b ∷ bs) = simp (and-is, digit-is, all-digits-is bs) Iff·rfl
-
-abbrev pub Index : ℕ → ℕ → Type 0
-Index b v = ((b ≡ 32) × (v ≡ 1)) ⊎ ((49 ≤ b) × (b ≤ 57) × (v ≡ b - 48))
 
 digit1-is : (b : ℕ) → (digit1 b ≡ true) ↔ ((49 ≤ b) × (b ≤ 57))
 unfolding digit1
@@ -122,11 +109,6 @@ index-is b =
       λ w. u .1 (⊎-elim (λ i. inl (eq-eqb b 32 (i .0))) (λ i. inr (digit1-is b .1 (i .0, i .1))) (w .1)),
     )
 
--- codes
-abbrev pub OneOf : String → ℕ → Type 0
-OneOf empty b = ⊥
-OneOf (_∷ₛ_ c s) b = (b ≡ ascii c) ⊎ OneOf s b
-
 one-of-is : (s : String) (b : ℕ) → (oneOf s b ≡ true) ↔ OneOf s b
 unfolding oneOf
 one-of-is empty b = (λ e. clash e, λ w. absurd w)
@@ -135,13 +117,6 @@ one-of-is (_∷ₛ_ c s) b =
       λ e. ⊎-elim (λ t. inl (eqb-true b _ t)) (λ t. inr (one-of-is s b .0 t)) (u .0 e),
       λ w. u .1 (⊎-elim (λ t. inl (eq-eqb b _ t)) (λ t. inr (one-of-is s b .1 t)) w),
     )
-
-abbrev pub Family : ℕ → ℕ → Type 0
-Family i b = (i ≡ fileR → OneOf "GHR" b) × ((i ≡ fileR → ⊥) → OneOf "VEAWS" b)
-
-abbrev pub Code : ℕ → List ℕ → Type 0
-Code i bs =
-    (bs ≡ bytes "PM") ⊎ ((bs ≡ bytes "KL") ⊎ (Family i (col bs 1) × ((49 ≤ col bs 2) × (col bs 2 ≤ 57))))
 
 family-is : (i b : ℕ) → (family i b ≡ true) ↔ Family i b
 unfolding family
@@ -171,13 +146,6 @@ code-is i bs =
           c),
     )
 
--- a whole number in a range, with and without a sign; decimals likewise
-abbrev pub InRange : (List ℕ → ℕ → Type 0) → ℕ → ℕ → List ℕ → Type 0
-InRange P a b bs = (n : ℕ) × P bs n × (a ≤ n) × (n ≤ b)
-
-abbrev pub SignedRange : (List ℕ → ℕ → Type 0) → (List ℕ → ℕ → Type 0) → ℕ → ℕ → List ℕ → Type 0
-SignedRange P M a b bs = ((n : ℕ) × P bs n × (n ≤ b)) ⊎ ((n : ℕ) × M bs n × (n ≤ a))
-
 module _ (read : List ℕ → Number) (P : List ℕ → ℕ → Type 0) (p : (bs : List ℕ) (n : ℕ) → (read bs ≡ plus n) ↔ P bs n) where
   range-is : (a b : ℕ) (bs : List ℕ) → (between a b (read bs) ≡ true) ↔ InRange P a b bs
   range-is a b bs =
@@ -198,9 +166,6 @@ module _ (read : List ℕ → Number) (P : List ℕ → ℕ → Type 0) (p : (bs
           λ e. let w = u .0 e in (w .0, ⊎-elim (λ t. inl (p bs _ .0 t)) (λ t. inr (m bs _ .0 t)) (w .1)),
           λ w. u .1 (w .0, ⊎-elim (λ t. inl (p bs _ .1 t)) (λ t. inr (m bs _ .1 t)) (w .1)),
         )
-
-abbrev pub WaterDepth : List ℕ → Type 0
-WaterDepth bs = InRange Decimal 0 999 bs ⊎ InRange Whole 0 999 bs
 
 formed-then : (v : Number) (d : ℕ) → formed v ≡ true → formed (then v d) ≡ true
 unfolding formed then
@@ -224,27 +189,9 @@ water-is bs =
     go t m false true f g p q = (λ e. inr (q .0 refl), λ w. g refl)
     go t m false false f g p q = (λ e. clash e, λ w. ⊎-elim (λ u. p .1 u) (λ u. q .1 u) w)
 
-abbrev pub Time : List ℕ → Type 0
-Time bs =
-    InRange Figures 0 23 (take 2 bs) × (InRange Figures 0 59 (take 2 (drop 2 bs)) × InRange Figures 0 59 (drop 4 bs))
-
 pub time-is : (bs : List ℕ) → (isTime bs ≡ true) ↔ Time bs
 unfolding isTime
 time-is bs = simp (and-is, range-is digits Figures digits-are) Iff·rfl
-
-abbrev pub Reads : Kind → List ℕ → Type 0
-Reads startsNonBlank bs = col bs 1 ≡ 32 → ⊥
-Reads digitsOnly bs = Digits bs
-Reads coordinate bs = (n : ℕ) × (Decimal bs n ⊎ MinusDecimal bs n)
-Reads index bs = (v : ℕ) × Index (col bs 1) v
-Reads waterDepth bs = WaterDepth bs
-Reads time bs = Time bs
-Reads (wholeNumber a b) bs = InRange Whole a b bs
-Reads (signedNumber a b) bs = SignedRange Whole Minus a b bs
-Reads (signedDecimal a b) bs = SignedRange Decimal MinusDecimal a b bs
-Reads (decimalNumber b) bs = InRange Decimal 0 b bs
-Reads (code i) bs = Code i bs
-Reads (mayBeBlank k) bs = Blank bs ⊎ Reads k bs
 
 pub kind-is : (k : Kind) (bs : List ℕ) → (fits k bs ≡ true) ↔ Reads k bs
 unfolding fits

@@ -1,86 +1,270 @@
--- Refusals 1 to 6 in the paper's words, of one file.
---   Header l            = H in column 1
---   Marker L l          = PM in the code's columns
---   Data f k, Point f k = line k is no header line; and no marker
---   FieldsRead M l ws   = each field of the table obeys its rule, but those that a marker has free, where M says that l is one
---   Counted q           = 6 of one relation line
---   Formed i f          = a field for each refusal 1 to 6
-use Prim.Native.Nat.{ℕ, _/_, _%_, _≤_, _<_}
-use Prim.Native.Char.{code as ascii}
-use mathlib.Core.Path.{_≡_}
-use mathlib.Core.Logic.{_↔_, Iff·rfl}
-use mathlib.Core.Bool.{Bool, true, false}
-use mathlib.Core.List.{List, [], _∷_}
-use Rattle.rules.specs.Plan.{fileX}
+-- The tests of refusals 1 to 6 say what `MeetsForm` has in words, and fail where its breaches are.
+use Prim.Native.Nat.{ℕ, zero, suc, _+_, _-_, _/_, _%_, _≤_, _<_}
+use native.Mathlib.Nat.{not-suc-le-zero}
+use native.Mathlib.Omega.{arith}
+use mathlib.Core.Path.{_≡_, refl, sym, ap, _∙_, subst}
+use mathlib.Core.Logic.{_↔_, _⊎_, inl, inr, ⊎-elim, Iff·rfl, Iff·trans}
+use mathlib.Core.Bool.{Bool, true, false, not, _&&_}
+use mathlib.Core.List.{List, [], _∷_, _++_}
+use lib.Dec.{eqb, leb}
+use lib.ListN.{length, getD}
+use Rattle.rules.specs.Places.{pick, every}
+use Rattle.rules.specs.Plan.{Refusal, №, fileX, Plan, need, when, _before_}
 use Rattle.rules.specs.Text.{col, bytes}
+use Rattle.rules.specs.Kinds.{fits}
 use Rattle.rules.specs.Layout.{Layout, letterColumn, at}
 use Rattle.rules.specs.Sheet.{Sheet, mostLines}
 use Rattle.rules.specs.Lines.{letter, isHeader, isMarker, isData, isPoint}
-use Rattle.rules.specs.Relations.{Reach, reach}
+use Rattle.rules.specs.Relations.{Reach, reach, reachAt}
 use Rattle.rules.specs.Cover.{traces, receivers}
 use Rattle.rules.specs.Rows.{Row, headerRows, pointRows, relationRows}
-use Rattle.rules.specs.Form.{rule1, rule2, rule3, rule4, rule5, rule6, fieldsFit, lineFits, form}
-use Rattle.rules.proofs.Tests.{says, clash, and-is, not-is}
-use Rattle.rules.proofs.Breach.{Met}
-use Rattle.rules.proofs.Fields.{Reads, kind-is}
-
-abbrev pub Header : List ℕ → Type 0
-Header l = col l letterColumn ≡ ascii "H"
+use Rattle.rules.specs.Form.{strayFrom, stray, rule3, rule4, rule5, rule6, fieldsFit}
+use Rattle.rules.specs.MeetsFields.{Reads}
+use Rattle.rules.specs.MeetsForm.{Header, Marker, Data, Point, Taken, Rule3, Breach3, Rule4, Breach4, Checked, FieldsRead, FirstOf, Rule5, Breach5}
+use Rattle.rules.specs.MeetsForm.{Counted, Miscounted}
+use Rattle.rules.specs.Refuses.{by, inColumn}
+use Rattle.rules.proofs.Tests.{says, clash, and-is, not-is, yes-no, pick-is, eqb-is, leb-is}
+use Rattle.rules.proofs.Contrary.{contrary, not-leb, not-pick, not-every}
+use Rattle.rules.proofs.Breach.{Met, Broken}
+use Rattle.rules.proofs.Fields.{kind-is}
 
 pub header-is : (l : List ℕ) → (isHeader l ≡ true) ↔ Header l
 unfolding isHeader
 header-is l = simp says Iff·rfl
 
-abbrev pub Marker : Layout → List ℕ → Type 0
-Marker L l = at l (L .code) ≡ bytes "PM"
-
 pub marker-is : (L : Layout) (l : List ℕ) → (isMarker L l ≡ true) ↔ Marker L l
 unfolding isMarker
 marker-is L l = simp says Iff·rfl
-
-abbrev pub Data : Sheet → ℕ → Type 0
-Data f k = Header (f .row k) → ⊥
 
 pub data-is : (f : Sheet) (k : ℕ) → (isData f k ≡ true) ↔ Data f k
 unfolding isData
 data-is f k = simp (not-is, header-is) Iff·rfl
 
-abbrev pub Point : Sheet → ℕ → Type 0
-Point f k = Data f k × (Marker (f .layout) (f .row k) → ⊥)
+-- a line is a header line or not
+pub header-or : (f : Sheet) (k : ℕ) → (Data f k → ⊥) → Header (f .row k)
+header-or f k n = header-is _ .0 (yes-no (isHeader (f .row k)) (λ t. t) (λ t. absurd (n (λ h. t (header-is _ .1 h)))))
 
 pub point-is : (f : Sheet) (k : ℕ) → (isPoint f k ≡ true) ↔ Point f k
 unfolding isPoint
 point-is f k = simp (and-is, not-is, data-is, marker-is) Iff·rfl
 
-abbrev pub FieldsRead : Type 0 → List ℕ → List Row → Type 0
-FieldsRead M l [] = Unit {0}
-FieldsRead M l (w ∷ ws) =
-    (((w .freeInMarker ≡ true) × M → ⊥) → Reads (w .kind) (at l (w .columns))) × FieldsRead M l ws
+-- one test, and one where another passes
+pub need-breaks : (t : Bool) (v : Refusal) {B : Type 0} → (t ≡ true → ⊥) ↔ B → (w : Refusal) → Broken w (need t v) ↔ by B v w
+unfolding Broken
+need-breaks t v e w = (λ b. (e .0 (b .0), b .1), λ b. (e .1 (b .0), b .1))
 
+pub when-breaks : (s t : Bool) (v : Refusal) {A B : Type 0} → (s ≡ true) ↔ A → (t ≡ true → ⊥) ↔ B
+    → (w : Refusal) → Broken w (when s (need t v)) ↔ by (A × B) v w
+unfolding Broken
+when-breaks s t v d e w = (λ b. ((d .0 (b .0), e .0 (b .1 .0)), b .1 .1), λ b. (d .1 (b .0 .0), (e .1 (b .0 .1), b .1)))
+
+-- 3
+module _ (takes : ℕ → ℕ → Bool) where
+  pub stray-none : (c : ℕ) (bs : List ℕ) → 1 ≤ c
+      → (strayFrom takes c bs ≡ 0) ↔ ((i : ℕ) → i < length bs → takes (c + i) (getD bs i 0) ≡ true)
+  unfolding strayFrom
+  stray-none c [] o = (λ e i h. absurd (not-suc-le-zero h), λ f. refl)
+  stray-none c (b ∷ bs) o =
+      let u = pick-is (takes c b) (strayFrom takes (suc c) bs) c 0 in
+      let ih = stray-none (suc c) bs (omega arith) in
+      let here : strayFrom takes c (b ∷ bs) ≡ 0 → takes c b ≡ true = λ e. yes-no (takes c b) (λ t. t) (λ t. absurd (let z = u .0 e .1 t in omega arith)) in (
+        λ e i h. each i h (here e) (ih .0 (u .0 e .0 (here e))),
+        λ f.
+            let t = subst (λ (m : ℕ). takes m b ≡ true) (let z : c + 0 ≡ c = omega arith in z) (f 0 (omega arith)) in
+            u .1 (
+              (λ _.
+                  ih .1
+                  (λ i h.
+                  subst (λ (m : ℕ). takes m (getD bs i 0) ≡ true) (let z : c + suc i ≡ suc c + i = omega arith in z) (f (suc i) (omega arith)))),
+              λ n. absurd (n t),
+            ),
+      )
+    where
+      each : (i : ℕ) → i < length (b ∷ bs) → takes c b ≡ true → ((i : ℕ) → i < length bs → takes (suc c + i) (getD bs i 0) ≡ true)
+          → takes (c + i) (getD (b ∷ bs) i 0) ≡ true
+      each zero h t f = subst (λ (m : ℕ). takes m b ≡ true) (let z : c ≡ c + 0 = omega arith in z) t
+      each (suc i) h t f =
+          subst (λ (m : ℕ). takes m (getD bs i 0) ≡ true) (let z : suc c + i ≡ c + suc i = omega arith in z) (f i (omega arith))
+
+  -- the lowest column that is not taken
+  abbrev Lowest : ℕ → List ℕ → ℕ → Type 0
+  Lowest c bs i =
+      (i < length bs) × (takes (c + i) (getD bs i 0) ≡ true → ⊥) × ((j : ℕ) → j < i → takes (c + j) (getD bs j 0) ≡ true)
+
+  shift : (c i b : ℕ) → takes (suc c + i) b ≡ takes (c + suc i) b
+  shift c i b = ap (λ (m : ℕ). takes m b) (let z : suc c + i ≡ c + suc i = omega arith in z)
+
+  first-here : (c b : ℕ) → takes c b ≡ takes (c + 0) b
+  first-here c b = ap (λ (m : ℕ). takes m b) (let z : c ≡ c + 0 = omega arith in z)
+
+  lowest-later : (c b : ℕ) (bs : List ℕ) (i : ℕ) → (takes c b ≡ true) × Lowest (suc c) bs i ↔ Lowest c (b ∷ bs) (suc i)
+  lowest-later c b bs i = (
+    λ w. (omega (arith, w .1 .0), (λ t. w .1 .1 (shift c i _ ∙ t)), below (w .0) (w .1 .2)),
+    λ w. (
+      first-here c b ∙ w .2 0 (omega arith),
+      (omega (arith, w .0), (λ t. w .1 (sym (shift c i _) ∙ t)), λ j h. shift c j _ ∙ w .2 (suc j) (omega arith)),
+    ),
+  )
+    where
+      below : takes c b ≡ true → ((j : ℕ) → j < i → takes (suc c + j) (getD bs j 0) ≡ true) → (j : ℕ) → j < suc i
+          → takes (c + j) (getD (b ∷ bs) j 0) ≡ true
+      below t f zero h = sym (first-here c b) ∙ t
+      below t f (suc j) h = sym (shift c j _) ∙ f j (omega arith)
+
+  pub stray-at : (c : ℕ) (bs : List ℕ) (i : ℕ) → Lowest c bs i → strayFrom takes c bs ≡ c + i
+  unfolding strayFrom
+  stray-at c [] i w = absurd (not-suc-le-zero (w .0))
+  stray-at c (b ∷ bs) zero w =
+      pick-is (takes c b) _ c _ .1 ((λ t. absurd (w .1 (sym (first-here c b) ∙ t))), λ _. omega arith)
+  stray-at c (b ∷ bs) (suc i) w =
+      let v = lowest-later c b bs i .1 w in
+      pick-is (takes c b) _ c _ .1 ((λ _. stray-at (suc c) bs i (v .1) ∙ (let z : suc c + i ≡ c + suc i = omega arith in z)), λ n. absurd (n (v .0)))
+
+  pub stray-some : (c : ℕ) (bs : List ℕ) → (strayFrom takes c bs ≡ 0 → ⊥) → (i : ℕ) × Lowest c bs i
+  unfolding strayFrom
+  stray-some c [] n = absurd (n refl)
+  stray-some c (b ∷ bs) n =
+      yes-no (takes c b)
+      (λ t.
+      let w = stray-some (suc c) bs (λ e. n (pick-is (takes c b) _ c 0 .1 ((λ _. e), λ m. absurd (m t)))) in
+      (suc (w .0), lowest-later c b bs (w .0) .0 (t, w .1)))
+      (λ t. (0, (omega arith, (λ u. t (first-here c b ∙ u)), λ j h. absurd (not-suc-le-zero h))))
+
+-- column c of the line as the medium has it
+taken-at : (f : Sheet) (k i : ℕ) → f .takes (1 + i) (getD (f .raw k) i 0) ≡ f .takes (1 + i) (col (f .raw k) (1 + i))
+unfolding col
+taken-at f k i = ap (λ (j : ℕ). f .takes (1 + i) (getD (f .raw k) j 0)) (let z : i ≡ 1 + i - 1 = omega arith in z)
+
+pub clean-stray : (f : Sheet) (k : ℕ) → (stray f k ≡ 0) ↔ Rule3 f k
+unfolding stray
+clean-stray f k =
+    let b = stray-none (f .takes) 1 (f .raw k) (omega arith) in (
+      λ e c o h.
+          let q : 1 + (c - 1) ≡ c = omega arith in
+          subst (Taken f k) q (sym (taken-at f k (c - 1)) ∙ b .0 e (c - 1) (omega arith)),
+      λ g. b .1 (λ j h. taken-at f k j ∙ g (1 + j) (omega arith) (omega arith)),
+    )
+
+pub rule3-is : (i : ℕ) (f : Sheet) (k : ℕ) → Met (rule3 i f k) ↔ Rule3 f k
+unfolding rule3
+rule3-is i f k = Iff·trans (eqb-is (stray f k) 0) (clean-stray f k)
+
+pub rule3-breaks : (i : ℕ) (f : Sheet) (k : ℕ) (w : Refusal) → Broken w (rule3 i f k) ↔ inColumn (Breach3 f k) (№ 3 i (k + 1)) w
+unfolding rule3 stray Broken
+rule3-breaks i f k w =
+    let l = f .raw k in
+    let z = eqb-is (strayFrom (f .takes) 1 l) 0 in (
+      λ b.
+          let v = stray-some (f .takes) 1 l (λ e. b .0 (z .1 e)) in
+          let at = stray-at (f .takes) 1 l (v .0) (v .1) in
+          let h = v .1 .0 in (
+            1 + v .0,
+            (
+              omega arith,
+              omega arith,
+              (λ t. v .1 .1 (taken-at f k (v .0) ∙ t)),
+              λ d o g.
+                  let q : 1 + (d - 1) ≡ d = omega arith in
+                  subst (Taken f k) q (sym (taken-at f k (d - 1)) ∙ v .1 .2 (d - 1) (omega arith)),
+            ),
+            ap (№ 3 i (k + 1)) (sym at) ∙ b .1,
+          ),
+      λ b.
+          let c = b .0 in
+          let o = b .1 .0 in
+          let h = b .1 .1 in
+          let q : 1 + (c - 1) ≡ c = omega arith in
+          let at =
+          stray-at (f .takes) 1 l (c - 1) (
+            omega arith,
+            (λ t. b .1 .2 (subst (Taken f k) q (sym (taken-at f k (c - 1)) ∙ t))),
+            λ j g. taken-at f k j ∙ b .1 .3 (1 + j) (omega arith) (omega arith),
+          ) in
+          ((λ e. let y = z .0 e in omega arith), ap (№ 3 i (k + 1)) (at ∙ q) ∙ b .2),
+    )
+
+-- 4
+pub rule4-is : (i : ℕ) (f : Sheet) (k : ℕ) → Met (rule4 i f k) ↔ Rule4 i f k
+unfolding rule4
+rule4-is i f k = simp (says, header-is) Iff·rfl
+
+pub rule4-breaks : (i : ℕ) (f : Sheet) (k : ℕ) (w : Refusal) → Broken w (rule4 i f k) ↔ by (Breach4 i f k) (№ 4 i (k + 1) letterColumn) w
+unfolding rule4
+rule4-breaks i f k =
+    let l = f .row k in
+    let u = not-pick (isHeader l) (every k (λ j. isHeader (f .row j))) (eqb (col l letterColumn) (letter i)) in
+    let h = header-is l in
+    let v = not-every k (λ j. isHeader (f .row j)) in
+    let d : (j : ℕ) → (isHeader (f .row j) ≡ true → ⊥) ↔ Data f j = λ j. contrary (header-is (f .row j)) in
+    let e = contrary (eqb-is (col l letterColumn) (letter i)) in
+    need-breaks _ _ (
+      λ n. ⊎-elim (λ y. let z = v .0 (y .1) in inl (h .0 (y .0), (z .0, z .1, d (z .0) .0 (z .2)))) (λ y. inr (d k .0 (y .0), e .0 (y .1))) (u .0 n),
+      λ b. u .1 (⊎-elim (λ y. inl (h .1 (y .0), v .1 (y .1 .0, y .1 .1, d _ .1 (y .1 .2)))) (λ y. inr (d k .1 (y .0), e .1 (y .1))) b),
+    )
+
+-- 5
 pub fields-are : (i k : ℕ) (m : Bool) (M : Type 0) → (m ≡ true) ↔ M → (l : List ℕ) (ws : List Row)
     → Met (fieldsFit i k m l ws) ↔ FieldsRead M l ws
 unfolding fieldsFit
 fields-are i k m M e l [] = Iff·rfl
 fields-are i k m M e l (w ∷ ws) = simp (says, e, kind-is, fields-are i k m M e l ws) Iff·rfl
 
-abbrev pub Rule4 : ℕ → Sheet → ℕ → Type 0
-Rule4 i f k =
-    (Header (f .row k) → (j : ℕ) → j < k → Header (f .row j)) × (Data f k → col (f .row k) letterColumn ≡ letter i)
+-- the first field that breaks its rule
+module _ (i k : ℕ) (m : Bool) (M : Type 0) (e : (m ≡ true) ↔ M) (l : List ℕ) where
+  checked-is : (v : Row) → (not (v .freeInMarker && m) ≡ true) ↔ Checked M v
+  checked-is v = simp (says, e) Iff·rfl
 
-abbrev pub Rule5 : ℕ → Layout → List ℕ → Type 0
-Rule5 i L l =
-    (Header l → FieldsRead ⊥ l (headerRows L))
-    × (((Header l → ⊥) × (i ≡ fileX → ⊥) → FieldsRead (Marker L l) l (pointRows L i))
-    × ((Header l → ⊥) × (i ≡ fileX) → FieldsRead ⊥ l (relationRows L)))
+  reads-not : (v : Row) → (fits (v .kind) (at l (v .columns)) ≡ true → ⊥) ↔ (Reads (v .kind) (at l (v .columns)) → ⊥)
+  reads-not v = contrary (kind-is (v .kind) (at l (v .columns)))
 
-abbrev pub Counted : Reach → Type 0
-Counted q =
-    (q .from ≤ q .upto)
-    × ((q .fromReceiver ≤ q .toReceiver) × ((traces q % q .step ≡ 0) × (traces q / q .step ≡ receivers q)))
+  first-is : (v : Row) (vs left : List Row) (u : Row) (right : List Row) → v ∷ vs ≡ left ++ (u ∷ right) → FieldsRead M l left
+      → Checked M u → (Reads (u .kind) (at l (u .columns)) → ⊥)
+      → ((u ≡ v) × (Checked M v × (Reads (v .kind) (at l (v .columns)) → ⊥)))
+      ⊎ ((Checked M v → Reads (v .kind) (at l (v .columns))) × FirstOf M l vs (u .columns .first))
+  first-is v vs [] u right q f a n =
+      let p : u ≡ v = cc in
+      inl (p, (subst (Checked M) p a, subst (λ (y : Row). Reads (y .kind) (at l (y .columns)) → ⊥) p n))
+  first-is v vs (y ∷ left) u right q f a n =
+      let p : y ≡ v = cc in
+      let g : vs ≡ left ++ (u ∷ right) = cc in
+      inr (
+        subst (λ (z : Row). Checked M z → Reads (z .kind) (at l (z .columns))) p (f .0),
+        (left, u, right, g, f .1, a, n, refl),
+      )
 
--- line k of file i is a relation line
-abbrev pub Relates : ℕ → Sheet → ℕ → Type 0
-Relates i f k = Data f k × (i ≡ fileX)
+  none-first : (left : List Row) (u : Row) (right : List Row) → [] ≡ left ++ (u ∷ right) → ⊥
+  none-first [] u right q = let z : _≡_ {A = ℕ} 0 1 = cc in omega arith
+  none-first (y ∷ left) u right q = let z : _≡_ {A = ℕ} 0 1 = cc in omega arith
+
+  pub fields-break : (ws : List Row) (w : Refusal) → Broken w (fieldsFit i k m l ws) ↔ inColumn (FirstOf M l ws) (№ 5 i (k + 1)) w
+  unfolding fieldsFit Broken
+  fields-break [] w = (λ b. absurd b, λ b. absurd (none-first (b .1 .0) (b .1 .1) (b .1 .2) (b .1 .3)))
+  fields-break (v ∷ vs) w =
+      let ih = fields-break vs w in
+      let a = checked-is v in
+      let n = reads-not v in
+      let y = kind-is (v .kind) (at l (v .columns)) in (
+        λ b.
+            ⊎-elim (λ u. (v .columns .first, ([], v, vs, refl, tt, a .0 (u .0), n .0 (u .1 .0), refl), u .1 .1))
+            (λ u.
+            let z = ih .0 (u .1) in
+            let f = z .1 in (
+              z .0,
+              (v ∷ f .0, f .1, f .2, ap (λ (r : List Row). v ∷ r) (f .3), ((λ q. y .0 (u .0 (a .1 q))), f .4), f .5, f .6, f .7),
+              z .2,
+            ))
+            b,
+        λ b.
+            let f = b .1 in
+            ⊎-elim
+            (λ u.
+            let c : v .columns .first ≡ b .0 = ap (λ (r : Row). r .columns .first) (sym (u .0)) ∙ f .7 in
+            inl (a .1 (u .1 .0), (n .1 (u .1 .1), ap (№ 5 i (k + 1)) c ∙ b .2)))
+            (λ u.
+            let c : (№ 5 i (k + 1) (f .1 .columns .first)) ≡ w = ap (№ 5 i (k + 1)) (f .7) ∙ b .2 in
+            inr ((λ q. y .1 (u .0 (a .0 q))), ih .1 (f .1 .columns .first, u .1, c)))
+            (first-is v vs (f .0) (f .1) (f .2) (f .3) (f .4) (f .5) (f .6)),
+      )
 
 never : (false ≡ true) ↔ ⊥
 never = (λ e. clash e, λ e. absurd e)
@@ -97,44 +281,65 @@ rule5-is i L k l =
     )
     Iff·rfl
 
+pub rule5-breaks : (i : ℕ) (L : Layout) (k : ℕ) (l : List ℕ) (w : Refusal)
+    → Broken w (rule5 i L k l) ↔ inColumn (Breach5 i L l) (№ 5 i (k + 1)) w
+unfolding rule5 Broken
+rule5-breaks i L k l w =
+    let head = fields-break i k false ⊥ never l (headerRows L) w in
+    let point = fields-break i k (isMarker L l) (Marker L l) (marker-is L l) l (pointRows L i) w in
+    let relation = fields-break i k false ⊥ never l (relationRows L) w in
+    let h = header-is l in
+    let p : (not (isHeader l) && not (eqb i fileX) ≡ true) ↔ ((Header l → ⊥) × (i ≡ fileX → ⊥)) = simp (says, header-is) Iff·rfl in
+    let x : (not (isHeader l) && eqb i fileX ≡ true) ↔ ((Header l → ⊥) × (i ≡ fileX)) = simp (says, header-is) Iff·rfl in (
+      λ b.
+          ⊎-elim (λ u. let z = head .0 (u .1) in (z .0, inl (h .0 (u .0), z .1), z .2))
+          (λ u.
+          ⊎-elim (λ y. let z = point .0 (y .1) in (z .0, inr (inl (p .0 (y .0), z .1)), z .2))
+          (λ y. let z = relation .0 (y .1 .1) in (z .0, inr (inr (x .0 (y .1 .0), z .1)), z .2))
+          (u .1))
+          b,
+      λ b.
+          ⊎-elim (λ u. inl (h .1 (u .0), head .1 (b .0, u .1, b .2)))
+          (λ y.
+          ⊎-elim
+          (λ u. inr ((λ t. absurd (u .0 .0 (h .0 t))), inl (p .1 (u .0), point .1 (b .0, u .1, b .2))))
+          (λ u.
+          inr (
+            (λ t. absurd (u .0 .0 (h .0 t))),
+            inr ((λ t. absurd (p .0 t .1 (u .0 .1))), (x .1 (u .0), relation .1 (b .0, u .1, b .2))),
+          ))
+          y)
+          (b .1),
+    )
+
+-- 6
 pub rule6-is : (L : Layout) (k : ℕ) (q : Reach) → Met (rule6 L k q) ↔ Counted q
 unfolding rule6
 rule6-is L k q = simp says Iff·rfl
 
-abbrev LineFormed : ℕ → Sheet → ℕ → Type 0
-LineFormed i f k =
-    (f .stray k ≡ 0)
-    × (Rule4 i f k × (Rule5 i (f .layout) (f .row k) × (Relates i f k → Counted (reach (f .layout) (f .row k)))))
+-- one test more before others, each with its column
+module _ (t : Bool) {T F : Type 0} (y : (t ≡ true) ↔ T) (n : (t ≡ true → ⊥) ↔ F) (a : ℕ) (g : ℕ → Refusal) where
+  pub last-breaks : (w : Refusal) → Broken w (need t (g a)) ↔ inColumn (λ c. F × (a ≡ c)) g w
+  unfolding Broken
+  last-breaks w = (λ b. (a, (n .0 (b .0), refl), b .1), λ b. (n .1 (b .1 .0), ap g (b .1 .1) ∙ b .2))
 
-line-is : (i : ℕ) (f : Sheet) (k : ℕ) → Met (lineFits i f k) ↔ LineFormed i f k
-unfolding lineFits rule3 rule4
-line-is i f k = simp (rule5-is, rule6-is, says, header-is) Iff·rfl
+  pub next-breaks : (p : Plan) (N : ℕ → Type 0) → ((w : Refusal) → Broken w p ↔ inColumn N g w)
+      → (w : Refusal) → Broken w (need t (g a) before p) ↔ inColumn (λ c. (F × (a ≡ c)) ⊎ (T × N c)) g w
+  unfolding Broken
+  next-breaks p N e w = (
+    λ b.
+        ⊎-elim (λ u. (a, inl (n .0 (u .0), refl), u .1)) (λ u. let z = e w .0 (u .1) in (z .0, inr (y .0 (u .0), z .1), z .2)) b,
+    λ b.
+        ⊎-elim (λ u. inl (n .1 (u .0), ap g (u .1) ∙ b .2)) (λ u. inr (y .1 (u .0), e w .1 (b .0, u .1, b .2))) (b .1),
+  )
 
-pub record Formed (i : ℕ) (f : Sheet) : Type 0 where
-  pub rule1 : f .left ≡ 0
-  pub rule2 : f .count ≤ mostLines
-  pub rule3 : (k : ℕ) → k < f .count → f .stray k ≡ 0
-  pub rule4 : (k : ℕ) → k < f .count → Rule4 i f k
-  pub rule5 : (k : ℕ) → k < f .count → Rule5 i (f .layout) (f .row k)
-  pub rule6 : (k : ℕ) → k < f .count → Relates i f k → Counted (reach (f .layout) (f .row k))
-
-tests : (i : ℕ) (f : Sheet)
-    → Met (form i f) ↔ ((f .left ≡ 0) × ((f .count ≤ mostLines) × ((k : ℕ) → k < f .count → LineFormed i f k)))
-unfolding form rule1 rule2
-tests i f = simp (line-is, says) Iff·rfl
-
-pub form-is : (i : ℕ) (f : Sheet) → Met (form i f) ↔ Formed i f
-form-is i f =
-    let b = tests i f in (
-      λ m.
-          let t = b .0 m in
-          record {
-            rule1 = t .0;
-            rule2 = t .1 .0;
-            rule3 = λ k h. t .1 .1 k h .0;
-            rule4 = λ k h. t .1 .1 k h .1 .0;
-            rule5 = λ k h. t .1 .1 k h .1 .1 .0;
-            rule6 = λ k h. t .1 .1 k h .1 .1 .1;
-          },
-      λ w. b .1 (w .rule1, (w .rule2, λ k h. (w .rule3 k h, (w .rule4 k h, (w .rule5 k h, w .rule6 k h))))),
-    )
+pub rule6-breaks : (L : Layout) (k : ℕ) (q : Reach) (w : Refusal)
+    → Broken w (rule6 L k q) ↔ inColumn (Miscounted L q) (№ 6 fileX (k + 1)) w
+unfolding rule6
+rule6-breaks L k q =
+    let g : ℕ → Refusal = № 6 fileX (k + 1) in
+    let even = eqb-is (traces q % q .step) 0 in
+    next-breaks _ (leb-is (q .from) (q .upto)) (not-leb (q .from) (q .upto)) _ g _ _
+    (next-breaks _ (leb-is (q .fromReceiver) (q .toReceiver)) (not-leb (q .fromReceiver) (q .toReceiver)) _ g _ _
+    (next-breaks _ even (contrary even) _ g _ _
+    (last-breaks _ (eqb-is (traces q / q .step) (receivers q)) (contrary (eqb-is (traces q / q .step) (receivers q))) _ g)))

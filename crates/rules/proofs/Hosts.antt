@@ -23,20 +23,22 @@ use Rattle.rules.specs.Questions.{rule20}
 use Rattle.rules.specs.Lookup.{found, foundBack, lookup, wayBack}
 use Rattle.rules.specs.Spread.{highestOf, rule21, spreadVerdict, spread}
 use Rattle.rules.specs.Hosts.{packed, hostNumber}
+use Rattle.rules.specs.Meets.{Meets}
+use Rattle.rules.specs.Listed.{Listed}
 use Rattle.rules.proofs.Breach.{no-fine}
 use Rattle.rules.proofs.Form.{data-is}
-use Rattle.rules.proofs.Meets.{Meets, verdict-meets}
+use Rattle.rules.proofs.Meets.{verdict-meets}
 use Rattle.rules.proofs.Accepted.{sound}
 use Rattle.rules.proofs.Traces.{found-view, back-view, traced-range, back-range}
 use Rattle.rules.proofs.Demand3.{asked-then}
 use Rattle.rules.proofs.Spreads.{spread-fine, few}
-use Rattle.rules.proofs.Listed.{Only, run-only, Listed, at-line, rules-listed}
+use Rattle.rules.proofs.Listed.{Only, run-only, listed-within, rules-listed, asked-listed, room-listed}
 
 abbrev pub Sized : Answer → Type 0
 Sized (accepted a b c t) = t < 2 ^ 40
 Sized (refusal w) = Listed w
 Sized (trace l m) = (l ≤ 9999) × ((1 ≤ m) × (m ≤ 9))
-Sized (channel c) = c ≤ 9999
+Sized (channel c) = (1 ≤ c) × (c ≤ 9999)
 Sized (highest c) = c ≤ 9999
 Sized noTrace = Unit {0}
 
@@ -45,9 +47,10 @@ pub refusal-parts : (n f l c : ℕ) → Listed (№ n f l c)
     × ((packed (№ n f l c) / 2 ^ 32 % 256 ≡ f) × ((packed (№ n f l c) / 256 % 2 ^ 24 ≡ l) × (packed (№ n f l c) % 256 ≡ c)))
 unfolding packed
 refusal-parts n f l c w =
-    let a = w .1 .0 in
-    let b = w .1 .1 .0 in
-    let d = w .1 .1 .1 in
+    let v = listed-within n f l c w in
+    let a = v .1 .0 in
+    let b = v .1 .1 .0 in
+    let d = v .1 .1 .1 in
     (omega arith, (omega arith, (omega arith, omega arith)))
 
 pub trace-parts : (l m : ℕ) → m ≤ 9 → (hostNumber (trace l m) / 16 ≡ l) × (hostNumber (trace l m) % 16 ≡ m)
@@ -56,7 +59,7 @@ trace-parts l m h = (omega arith, omega arith)
 
 refusal-above : (w : Refusal) → Listed w → 2 ^ 40 ≤ packed w
 unfolding packed
-refusal-above (№ n f l c) h = let a = h .0 .0 in omega arith
+refusal-above (№ n f l c) h = let a = listed-within n f l c h .0 .0 in omega arith
 
 -- an answer that is no refusal
 below : (a : Answer) → hostNumber a < 2 ^ 40 → ((w : Refusal) → a ≡ refusal w → ⊥)
@@ -71,7 +74,7 @@ tells (trace l m) z =
     let p = z .0 in
     let q = z .1 .1 in
     below (trace l m) (omega arith) (λ w e. let y : _≡_ {A = ℕ} 0 1 = cc in omega arith)
-tells (channel c) z = below (channel c) (omega arith) (λ w e. let y : _≡_ {A = ℕ} 0 1 = cc in omega arith)
+tells (channel c) z = let p = z .1 in below (channel c) (omega arith) (λ w e. let y : _≡_ {A = ℕ} 0 1 = cc in omega arith)
 tells (highest c) z = below (highest c) (omega arith) (λ w e. let y : _≡_ {A = ℕ} 0 1 = cc in omega arith)
 tells noTrace z = below noTrace (omega arith) (λ w e. let y : _≡_ {A = ℕ} 0 1 = cc in omega arith)
 
@@ -127,7 +130,7 @@ module _ (r s x : List ℕ) where
       → Sized (answer (run (rule20 b before rules (file r) (file s) (file x))) a)
   unfolding rule20
   question-sized b a f =
-      answer-sized (rule20 b before rules (file r) (file s) (file x)) a (at-line 20 0 0 0 refl (omega arith), λ _. rules-listed r s x)
+      answer-sized (rule20 b before rules (file r) (file s) (file x)) a ((λ _. asked-listed), λ _. rules-listed r s x)
       (λ e. f (met (asked-then b (rules (file r) (file s) (file x)) (run (rules (file r) (file s) (file x))) refl .0 e .1)))
 
   module _ (t : List ℕ) (n : ℕ) where
@@ -146,12 +149,12 @@ module _ (r s x : List ℕ) where
         question-sized _ _
         (λ ok.
         ⊎-elim
-        (λ w. let v = back-range (file r) (file s) (file x) ok t n _ j m (w .1 .2) in subst Sized (sym (w .1 .2)) (v .1))
+        (λ w. let v = back-range (file r) (file s) (file x) ok t n _ j m (w .1 .2) in subst Sized (sym (w .1 .2)) v)
         (λ w. subst Sized (sym (w .1)) tt) (back-view (file r) (file x) t n j m))
 
     pub spread-sized : (a b : ℕ) → Sized (spread (file r) (file s) (file x) t n a b)
     unfolding spread spreadVerdict rule20 rule21 disc sps93
     spread-sized a b =
         answer-sized _ _
-        (at-line 20 0 0 0 refl (omega arith), λ _. (rules-listed r s x, λ _. at-line 21 0 0 0 refl (omega arith)))
+        ((λ _. asked-listed), λ _. (rules-listed r s x, λ _ _. room-listed))
         (λ e. few (file r) (file s) (file x) t n a b e)

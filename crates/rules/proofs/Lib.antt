@@ -1,4 +1,5 @@
 pub mod Tests
+pub mod Contrary
 pub mod Least
 pub mod Breach
 pub mod Steps
@@ -7,11 +8,12 @@ pub mod Numbers
 pub mod Sizes
 pub mod Fields
 pub mod Form
-pub mod Headers
 pub mod Projection
+pub mod Headers
 pub mod Cover
 pub mod Above
 pub mod Order
+pub mod Refuses
 pub mod Meets
 pub mod Search
 pub mod Accepted

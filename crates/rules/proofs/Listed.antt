@@ -1,178 +1,308 @@
--- Every refusal of a disc set is from the published list: its number, file, line and column are within what the paper names.
---   Only P p    = each refusal that the plan can give is such, where what is looked for before it is met
---   Listed w    = number 1 to 21, file 0 to 3, line to 10,000, column to 82
---   rules-listed = the refusals of the set check are listed
-use Prim.Native.Nat.{ℕ, suc, _+_, _*_, _≤_, _<_, min}
-use native.Mathlib.Nat.{not-suc-le-zero}
+-- Every refusal of a disc set is from the published list.
+--   Only P p       = each refusal that the plan can give is such, where what is looked for before it is met
+--   listed-within  = what the list says of the sizes of a number, file, line and column
+--   rules-listed   = the refusals of the set check are listed
+use Prim.Native.Nat.{ℕ, zero, suc, _+_, _*_, _≤_, _<_, min}
 use native.Mathlib.Omega.{arith}
-use mathlib.Core.Path.{_≡_, refl, sym, ap, subst}
-use mathlib.Core.Logic.{⊎-elim}
-use mathlib.Core.Bool.{Bool, true, false, _&&_}
+use mathlib.Core.Path.{_≡_, refl, sym, ap, _∙_, subst}
+use mathlib.Core.Logic.{_⊎_, inl, inr, ⊎-elim}
+use mathlib.Core.Bool.{Bool, true, false, not, _&&_, _||_}
 use mathlib.Core.List.{List, [], _∷_}
-use lib.Dec.{leb}
+use lib.Dec.{eqb, leb}
 use lib.ListN.{length, take, drop, length-take}
+use borrow.Author.Tests.{le-leb, eqb-true, eq-eqb}
 use Rattle.rules.specs.Places.{pick}
 use Rattle.rules.specs.Plan.{Refusal, №, refused, Plan, fileR, fileS, fileX, pass, need, _before_, upTo, when, run}
-use Rattle.rules.specs.Layout.{sps93}
+use Rattle.rules.specs.Layout.{Span, _to_, letterColumn, sps93}
 use Rattle.rules.specs.Sheet.{Sheet, mostLines}
-use Rattle.rules.specs.Disc.{byteFits, strayFrom, disc, file}
-use Rattle.rules.specs.Lines.{isData, heads}
+use Rattle.rules.specs.Disc.{byteFits, disc, file}
+use Rattle.rules.specs.Lines.{isHeader, heads as headCount}
 use Rattle.rules.specs.Rows.{Row, headerRows, pointRows, relationRows}
-use Rattle.rules.specs.Form.{rule1, rule2, rule3, rule4, fieldsFit, rule5, rule6, lineFits, form}
+use Rattle.rules.specs.Form.{strayFrom, stray, rule1, rule2, rule3, rule4, fieldsFit, rule5, rule6, lineFits, form}
 use Rattle.rules.specs.Headers.{rule7, rule8, sameColumns, rule9}
 use Rattle.rules.specs.Order.{rule10, rule11, rule12, rule13, rule14, rule15, rule16, rule17, rule18, rule19}
 use Rattle.rules.specs.Check.{relationFits, rules}
-use Rattle.rules.proofs.Tests.{says, and-is, leb-is}
-use Rattle.rules.proofs.Least.{least-below}
+use Rattle.rules.specs.Listed.{Entry, row, begins, published, oneOfFiles, inSpan, inSpans, standsIn, isListed, Listed}
+use Rattle.rules.proofs.Tests.{says, clash, and-is, or-is, leb-is, eqb-is}
 use Rattle.rules.proofs.Breach.{Met, Broken, run-broken}
+use Rattle.rules.proofs.Headers.{heads-few}
 
 abbrev pub Only : (Refusal → Type 0) → Plan → Type 0
 Only P pass = Unit {0}
-Only P (need t w) = P w
+Only P (need t w) = (t ≡ true → ⊥) → P w
 Only P (p before q) = Only P p × (Met p → Only P q)
 Only P (upTo n p) = (k : ℕ) → k < n → Only P (p k)
-Only P (when t p) = Only P p
+Only P (when t p) = t ≡ true → Only P p
 
 broken-only : (P : Refusal → Type 0) (p : Plan) (w : Refusal) → Only P p → Broken w p → P w
 unfolding Broken
 broken-only P pass w o b = absurd b
-broken-only P (need t v) w o b = subst P (b .1) o
+broken-only P (need t v) w o b = subst P (b .1) (o (b .0))
 broken-only P (p before q) w o b =
     ⊎-elim (λ h. broken-only P p w (o .0) h) (λ h. broken-only P q w (o .1 (h .0)) (h .1)) b
 broken-only P (upTo n p) w o b = broken-only P (p (b .0)) w (o (b .0) (b .1)) (b .3)
-broken-only P (when t p) w o b = broken-only P p w o (b .1)
+broken-only P (when t p) w o b = broken-only P p w (o (b .0)) (b .1)
 
 pub run-only : (P : Refusal → Type 0) (p : Plan) (w : Refusal) → Only P p → run p ≡ refused w → P w
 run-only P p w o e = broken-only P p w o (run-broken p w .0 e)
 
-abbrev pub Listed : Refusal → Type 0
-Listed (№ n f l c) = ((1 ≤ n) × (n ≤ 21)) × ((f ≤ 3) × ((l ≤ 10000) × (c ≤ 82)))
+-- the sizes of what is listed, by one computed test of the list
+abbrev filesWithin : List ℕ → Bool
+filesWithin [] = true
+filesWithin (f ∷ fs) = leb f 3 && filesWithin fs
 
--- a rule's number, file and column, by one computed test
-pub at-line : (n f c l : ℕ) → (leb 1 n && (leb n 21 && (leb f 3 && leb c 82))) ≡ true → l ≤ 10000 → Listed (№ n f l c)
-at-line n f c l e h = let w = simp says at e in ((w .0, w .1 .0), (w .1 .1 .0, (h, w .1 .1 .1)))
+abbrev columnsWithin : List Span → Bool
+columnsWithin [] = true
+columnsWithin (s ∷ ss) = leb (s .last) 82 && columnsWithin ss
+
+abbrev within : List Entry → Bool
+within [] = true
+within (e ∷ es) =
+    (leb 1 (e .number) && leb (e .number) 21) && (filesWithin (e .files) && (leb (e .lines .last) 10000 && (columnsWithin (e .columns) && within es)))
+
+abbrev pub Sizes : ℕ → ℕ → ℕ → ℕ → Type 0
+Sizes n f l c = ((1 ≤ n) × (n ≤ 21)) × ((f ≤ 3) × ((l ≤ 10000) × (c ≤ 82)))
+
+file-within : (f : ℕ) (fs : List ℕ) → filesWithin fs ≡ true → oneOfFiles f fs ≡ true → f ≤ 3
+unfolding oneOfFiles
+file-within f [] w e = clash e
+file-within f (g ∷ gs) w e =
+    let y = and-is _ _ .0 w in
+    ⊎-elim (λ t. let q = eqb-true g f t in let l = leb-is g 3 .0 (y .0) in omega arith) (λ t. file-within f gs (y .1) t) (or-is _ _ .0 e)
+
+column-within : (c : ℕ) (ss : List Span) → columnsWithin ss ≡ true → inSpans c ss ≡ true → c ≤ 82
+unfolding inSpans inSpan
+column-within c [] w e = clash e
+column-within c (s ∷ ss) w e =
+    let y = and-is _ _ .0 w in
+    ⊎-elim
+    (λ t.
+    let z = leb-is c (s .last) .0 (and-is (leb (s .first) c) (leb c (s .last)) .0 t .1) in
+    let l = leb-is (s .last) 82 .0 (y .0) in
+    omega arith)
+    (λ t. column-within c ss (y .1) t) (or-is (inSpan c s) (inSpans c ss) .0 e)
+
+entry-within : (es : List Entry) (n f l c : ℕ) → within es ≡ true → isListed es n f l c ≡ true → Sizes n f l c
+unfolding isListed standsIn inSpan
+entry-within [] n f l c w e = clash e
+entry-within (d ∷ es) n f l c w e =
+    let y = and-is _ _ .0 w in
+    let z = and-is _ _ .0 (y .0) in
+    let v = and-is _ _ .0 (y .1) in
+    let p = and-is _ _ .0 (v .1) in
+    let q = and-is _ _ .0 (p .1) in
+    ⊎-elim
+    (λ t.
+    let a = and-is _ _ .0 t in
+    let b = and-is _ _ .0 (a .1) in
+    let k = and-is _ _ .0 (b .1) in
+    let no = eqb-true (d .number) n (a .0) in
+    let low = leb-is 1 (d .number) .0 (z .0) in
+    let high = leb-is (d .number) 21 .0 (z .1) in
+    let last = leb-is (d .lines .last) 10000 .0 (p .0) in
+    let line = leb-is l (d .lines .last) .0 (and-is (leb (d .lines .first) l) (leb l (d .lines .last)) .0 (k .0) .1) in (
+      (omega arith, omega arith),
+      (file-within f (d .files) (v .0) (b .0), (omega arith, column-within c (d .columns) (q .0) (k .1))),
+    ))
+    (λ t. entry-within es n f l c (q .1) t)
+    (or-is (standsIn d n f l c) (isListed es n f l c) .0 e)
+
+pub listed-within : (n f l c : ℕ) → Listed (№ n f l c) → Sizes n f l c
+unfolding published begins headerRows pointRows relationRows sps93
+listed-within n f l c e = entry-within published n f l c refl e
+
+-- what stands in a row of the list is listed
+abbrev none : Entry
+none = row 0 [] (0 to 0) []
+
+abbrev entry : List Entry → ℕ → Entry
+entry [] k = none
+entry (e ∷ es) zero = e
+entry (e ∷ es) (suc k) = entry es k
+
+span-is : (c : ℕ) (s : Span) → s .first ≤ c → c ≤ s .last → inSpan c s ≡ true
+unfolding inSpan
+span-is c s a b = and-is _ _ .1 (le-leb _ _ a, le-leb _ _ b)
+
+module _ (f l c : ℕ) where
+  entry-listed : (es : List Entry) (k : ℕ) → oneOfFiles f (entry es k .files) ≡ true → entry es k .lines .first ≤ l
+      → l ≤ entry es k .lines .last → inSpans c (entry es k .columns) ≡ true → isListed es (entry es k .number) f l c ≡ true
+  unfolding isListed standsIn oneOfFiles
+  entry-listed [] k a b d e = clash a
+  entry-listed (e ∷ es) zero a b d g =
+      let rest = and-is _ _ .1 (a, and-is _ _ .1 (span-is l (e .lines) b d, g)) in
+      or-is (standsIn e (e .number) f l c) _ .1 (inl (and-is _ _ .1 (eq-eqb (e .number) _ refl, rest)))
+  entry-listed (e ∷ es) (suc k) a b d g = or-is (standsIn e (entry es k .number) f l c) _ .1 (inr (entry-listed es k a b d g))
+
+  -- row k, counted from 0
+  pub listed-at : (k : ℕ) → oneOfFiles f (entry published k .files) ≡ true → entry published k .lines .first ≤ l
+      → l ≤ entry published k .lines .last → inSpans c (entry published k .columns) ≡ true → Listed (№ (entry published k .number) f l c)
+  listed-at k = entry-listed published k
+
+abbrev beginsIn : List Span → List Row → Bool
+beginsIn cs [] = true
+beginsIn cs (w ∷ ws) = inSpans (w .columns .first) cs && beginsIn cs ws
 
 -- the column of a stray byte
-stray-few : (c : ℕ) (bs : List ℕ) → 1 ≤ c → strayFrom c bs < c + length bs
+stray-few : (c : ℕ) (bs : List ℕ) → 1 ≤ c → strayFrom byteFits c bs < c + length bs
 unfolding strayFrom pick
 stray-few c [] h = omega arith
-stray-few c (b ∷ bs) h = go (byteFits c b) (strayFrom (suc c) bs) (stray-few (suc c) bs (omega arith))
+stray-few c (b ∷ bs) h = go (byteFits c b) (strayFrom byteFits (suc c) bs) (stray-few (suc c) bs (omega arith))
   where
     go : (t : Bool) (m : ℕ) → m < suc c + length bs → pick t m c < c + suc (length bs)
     go true m l = omega arith
     go false m l = omega arith
 
--- the columns of the tables
-abbrev withinLine : List Row → Bool
-withinLine [] = true
-withinLine (w ∷ ws) = leb (w .columns .first) 80 && withinLine ws
+-- the form of file i, whose columns of 5 are cs
+module _ (i : ℕ) (cs : List Span) (own : oneOfFiles i (fileR ∷ fileS ∷ fileX ∷ []) ≡ true)
+    (five : (l c : ℕ) → 1 ≤ l → l ≤ 9999 → inSpans c cs ≡ true → Listed (№ 5 i l c))
+    (heads : beginsIn cs (headerRows sps93) ≡ true)
+    (points : (eqb i fileX ≡ true → ⊥) → beginsIn cs (pointRows sps93 i) ≡ true)
+    (relations : eqb i fileX ≡ true → beginsIn cs (relationRows sps93) ≡ true) where
+  module _ (k : ℕ) (line : k + 1 ≤ 9999) where
+    fields-listed : (marker : Bool) (l : List ℕ) (ws : List Row) → beginsIn cs ws ≡ true → Only Listed (fieldsFit i k marker l ws)
+    unfolding fieldsFit
+    fields-listed marker l [] e = tt
+    fields-listed marker l (w ∷ ws) e =
+        let b = and-is (inSpans (w .columns .first) cs) (beginsIn cs ws) .0 e in
+        ((λ _ _. five (k + 1) (w .columns .first) (omega arith) line (b .0)), λ _. fields-listed marker l ws (b .1))
 
--- a refusal in line k of file i
-module _ (i k : ℕ) (f3 : i ≤ 3) (line : k + 1 ≤ 10000) where
-  fields-listed : (marker : Bool) (l : List ℕ) (ws : List Row) → withinLine ws ≡ true → Only Listed (fieldsFit i k marker l ws)
-  unfolding fieldsFit
-  fields-listed marker l [] e = tt
-  fields-listed marker l (w ∷ ws) e =
-      let b = and-is (leb (w .columns .first) 80) (withinLine ws) .0 e in
-      let c = leb-is (w .columns .first) 80 .0 (b .0) in
-      (((omega arith, omega arith), (f3, (line, omega arith))), λ _. fields-listed marker l ws (b .1))
+    rule5-listed : (l : List ℕ) → Only Listed (rule5 i sps93 k l)
+    unfolding rule5
+    rule5-listed l = (
+      (λ _. fields-listed false l _ heads),
+      λ _. (
+        (λ t. fields-listed _ l _ (points (λ e. clash (sym (ap not e) ∙ and-is (not (isHeader l)) (not (eqb i fileX)) .0 t .1)))),
+        λ _ t. fields-listed false l _ (relations (and-is (not (isHeader l)) (eqb i fileX) .0 t .1)),
+      ),
+    )
 
-  rule5-listed : (l : List ℕ) → Only Listed (rule5 i sps93 k l)
-  unfolding rule5 headerRows pointRows relationRows sps93
-  rule5-listed l =
-      (fields-listed false l _ refl, λ _. (fields-listed _ l _ refl, λ _. fields-listed false l _ refl))
-
-  line-listed : (f : List ℕ) → Only Listed (lineFits i (file f) k)
-  unfolding lineFits rule3 rule4 rule6 disc sps93
-  line-listed f =
-      let n = length-take 82 (drop (82 * k) f) in
-      let c = stray-few 1 (take 82 (drop (82 * k) f)) (omega arith) in (
-        ((omega arith, omega arith), (f3, (line, omega arith))),
-        λ _. (
-          ((omega arith, omega arith), (f3, (line, omega arith))),
+    line-listed : (f : List ℕ) → Only Listed (lineFits i (file f) k)
+    unfolding lineFits rule3 rule4 rule6 stray disc sps93 published oneOfFiles inSpans inSpan
+    line-listed f =
+        let n = length-take 82 (drop (82 * k) f) in
+        let c = strayFrom byteFits 1 (take 82 (drop (82 * k) f)) in
+        let few = stray-few 1 (take 82 (drop (82 * k) f)) (omega arith) in (
+          λ z.
+              let nz : c ≡ 0 → ⊥ = λ e. z (eq-eqb c 0 e) in
+              listed-at i (k + 1) c 2 own (omega arith) line (or-is (inSpan c (1 to 82)) false .1 (inl (span-is c (1 to 82) (omega arith) (omega arith)))),
           λ _. (
-            rule5-listed _,
-            λ _. (at-line 6 3 39 _ refl line, λ _. (at-line 6 3 64 _ refl line, λ _. (at-line 6 3 47 _ refl line, λ _. at-line 6 3 72 _ refl line))),
+            (λ _. listed-at i (k + 1) letterColumn 3 own (omega arith) line refl),
+            λ _. (
+              rule5-listed _,
+              λ _ _. (
+                (λ _. listed-at 3 (k + 1) 39 6 refl (omega arith) line refl),
+                λ _. (
+                  (λ _. listed-at 3 (k + 1) 64 6 refl (omega arith) line refl),
+                  λ _. ((λ _. listed-at 3 (k + 1) 47 6 refl (omega arith) line refl), λ _ _. listed-at 3 (k + 1) 72 6 refl (omega arith) line refl),
+                ),
+              ),
+            ),
           ),
-        ),
-      )
+        )
 
-  columns-listed : (c : ℕ) (bs ds : List ℕ) → c + length bs ≤ 81 → c + length ds ≤ 81 → Only Listed (sameColumns i k c bs ds)
-  unfolding sameColumns
-  columns-listed c [] [] g h = tt
-  columns-listed c [] (d ∷ ds) g h = ((omega arith, omega arith), (f3, (line, omega arith)))
-  columns-listed c (b ∷ bs) [] g h = ((omega arith, omega arith), (f3, (line, omega arith)))
-  columns-listed c (b ∷ bs) (d ∷ ds) g h =
-      (((omega arith, omega arith), (f3, (line, omega arith))), λ _. columns-listed (suc c) bs ds (omega arith) (omega arith))
-
--- the form of a file, and its number of lines where that is met
-form-listed : (i : ℕ) → i ≤ 3 → (f : List ℕ) → Only Listed (form i (file f))
-unfolding form rule1 rule2 mostLines
-form-listed i h f = (
-  ((omega arith, omega arith), (h, (omega arith, omega arith))),
-  λ _. (
-    ((omega arith, omega arith), (h, (omega arith, omega arith))),
-    λ m k o. let n = leb-is (file f .count) 9999 .0 m in line-listed i k h (omega arith) f,
-  ),
-)
+  form-listed : (f : List ℕ) → Only Listed (form i (file f))
+  unfolding form rule1 rule2 mostLines published inSpans inSpan
+  form-listed f = (
+    (λ _. listed-at i (min (file f .count + 1) (9999 + 1)) 0 0 own (omega arith) (omega arith) refl),
+    λ _. (
+      (λ _. listed-at i (9999 + 1) 0 1 own (omega arith) (omega arith) refl),
+      λ m k o. let n = leb-is (file f .count) 9999 .0 m in line-listed k (omega arith) f,
+    ),
+  )
 
 lines-few : (i : ℕ) (f : List ℕ) → Met (form i (file f)) → file f .count ≤ 9999
 unfolding form rule2 mostLines
 lines-few i f m = leb-is (file f .count) 9999 .0 (m .1 .0)
 
-heads-few : (f : Sheet) → heads f ≤ f .count
-unfolding heads
-heads-few f = least-below (f .count) (isData f)
+nine : (i k c : ℕ) → oneOfFiles i (fileS ∷ fileX ∷ []) ≡ true → k + 1 ≤ 10000 → c ≤ 80 → Listed (№ 9 i (k + 1) c)
+unfolding published inSpans
+nine i k c o h l = listed-at i (k + 1) c 9 o (omega arith) h (or-is (inSpan c (0 to 80)) false .1 (inl (span-is c (0 to 80) (omega arith) l)))
 
-rule9-listed : (i : ℕ) → i ≤ 3 → (r f : List ℕ) → file r .count ≤ 9999 → Only Listed (rule9 i (file r) (file f))
+-- the columns of 9
+columns-listed : (i k c : ℕ) (bs ds : List ℕ) → oneOfFiles i (fileS ∷ fileX ∷ []) ≡ true → k + 1 ≤ 9999 → c + length bs ≤ 81 → c + length ds ≤ 81
+    → Only Listed (sameColumns i k c bs ds)
+unfolding sameColumns
+columns-listed i k c [] [] o h g e = tt
+columns-listed i k c [] (d ∷ ds) o h g e = λ _. nine i k c o (omega arith) (omega arith)
+columns-listed i k c (b ∷ bs) [] o h g e = λ _. nine i k c o (omega arith) (omega arith)
+columns-listed i k c (b ∷ bs) (d ∷ ds) o h g e =
+    ((λ _. nine i k c o (omega arith) (omega arith)), λ _. columns-listed i k (suc c) bs ds o h (omega arith) (omega arith))
+
+rule9-listed : (i : ℕ) → oneOfFiles i (fileS ∷ fileX ∷ []) ≡ true → (r f : List ℕ) → file r .count ≤ 9999 → Only Listed (rule9 i (file r) (file f))
 unfolding rule9 disc
-rule9-listed i h r f n =
+rule9-listed i o r f n =
     let a = heads-few (file r) in (
-      λ k o.
+      λ k h.
           let u = length-take 80 (drop (82 * k) r) in
           let v = length-take 80 (drop (82 * k) f) in
-          columns-listed i k h (omega arith) 1 _ _ (omega arith) (omega arith),
-      λ _. ((omega arith, omega arith), (h, (omega arith, omega arith))),
+          columns-listed i k 1 _ _ o (omega arith) (omega arith) (omega arith),
+      λ _ _. nine i (min (headCount (file r)) (headCount (file f))) 0 o (omega arith) (omega arith),
     )
 
 -- the rules of a relation line
-relation-listed : (r s x : List ℕ) (k : ℕ) → k + 1 ≤ 10000 → Only Listed (relationFits (file r) (file s) (file x) k)
-unfolding relationFits rule13 rule14 rule16 rule17 rule18 rule19 disc sps93
-relation-listed r s x k h = (
-  at-line 13 3 14 _ refl h,
+relation-listed : (r s x : List ℕ) (k : ℕ) → k + 1 ≤ 9999 → Only Listed (relationFits (file r) (file s) (file x) k)
+unfolding relationFits rule13 rule14 rule16 rule17 rule18 rule19 disc sps93 published oneOfFiles inSpans inSpan
+relation-listed r s x k h _ = (
+  (λ _. listed-at 3 (k + 1) 14 13 refl (omega arith) h refl),
   λ _. (
-    at-line 14 3 14 _ refl h,
-    λ _. (at-line 16 3 2 _ refl h, λ _. (at-line 17 3 39 _ refl h, λ _. (at-line 18 3 64 _ refl h, λ _. at-line 19 3 64 _ refl h))),
+    (λ _. listed-at 3 (k + 1) 14 14 refl (omega arith) h refl),
+    λ _. (
+      (λ _. listed-at 3 (k + 1) 2 16 refl (omega arith) h refl),
+      λ _. (
+        (λ _. listed-at 3 (k + 1) 39 17 refl (omega arith) h refl),
+        λ _. ((λ _. listed-at 3 (k + 1) 64 18 refl (omega arith) h refl), λ _ _. listed-at 3 (k + 1) 64 19 refl (omega arith) h refl),
+      ),
+    ),
   ),
 )
 
+-- the form of each file, with the columns of its tables
+module _ (f : List ℕ) where
+  points-listed : (i : ℕ) → (i ≡ fileR) ⊎ (i ≡ fileS) → Only Listed (form i (file f))
+  unfolding published begins headerRows pointRows sps93 oneOfFiles inSpans inSpan
+  points-listed i (inl e) =
+      rw e
+      (form-listed fileR (entry published 4 .columns) refl (λ l c a b d. listed-at fileR l c 4 refl a b d) refl (λ _. refl) (λ t. clash t) f)
+  points-listed i (inr e) =
+      rw e
+      (form-listed fileS (entry published 4 .columns) refl (λ l c a b d. listed-at fileS l c 4 refl a b d) refl (λ _. refl) (λ t. clash t) f)
+
+  relations-listed : Only Listed (form fileX (file f))
+  unfolding published begins headerRows relationRows sps93 oneOfFiles inSpans inSpan
+  relations-listed =
+      form-listed fileX (entry published 5 .columns) refl (λ l c a b d. listed-at fileX l c 5 refl a b d) refl (λ n. absurd (n refl)) (λ _. refl) f
+
 pub rules-listed : (r s x : List ℕ) → Only Listed (rules (file r) (file s) (file x))
-unfolding rules rule7 rule8 rule10 rule11 rule12 rule15 disc sps93
+unfolding rules rule7 rule8 rule10 rule11 rule12 rule15 disc sps93 published oneOfFiles inSpans inSpan
 rules-listed r s x = (
-  form-listed 1 (omega arith) r,
+  points-listed r fileR (inl refl),
   λ mr. (
-    form-listed 2 (omega arith) s,
+    points-listed s fileS (inr refl),
     λ ms. (
-      form-listed 3 (omega arith) x,
+      relations-listed x,
       λ mx.
           let a = lines-few 1 r mr in
           let b = lines-few 2 s ms in
           let c = lines-few 3 x mx in
           let d = heads-few (file r) in (
-            at-line 7 1 0 _ refl (omega arith),
+            (λ _. listed-at 1 (headCount (file r) + 1) 0 7 refl (omega arith) (omega arith) refl),
             λ _. (
-              λ k o. at-line 8 1 33 _ refl (omega arith),
+              (λ k o _ _. listed-at 1 (k + 1) 33 8 refl (omega arith) (omega arith) refl),
               λ _. (
-                rule9-listed 2 (omega arith) r s a,
+                rule9-listed 2 refl r s a,
                 λ _. (
-                  rule9-listed 3 (omega arith) r x a,
+                  rule9-listed 3 refl r x a,
                   λ _. (
-                    λ k o. at-line 10 1 2 _ refl (omega arith),
+                    (λ k o _ _. listed-at 1 (k + 1) 2 10 refl (omega arith) (omega arith) refl),
                     λ _. (
-                      λ k o. (at-line 11 2 72 _ refl (omega arith), λ _. at-line 12 2 2 _ refl (omega arith)),
+                      (λ k o. (
+                        (λ _ _. listed-at 2 (k + 1) 72 11 refl (omega arith) (omega arith) refl),
+                        λ _ _ _. listed-at 2 (k + 1) 2 12 refl (omega arith) (omega arith) refl,
+                      )),
                       λ _. (
-                        λ k o. relation-listed r s x k (omega arith),
-                        λ _ k o. at-line 15 2 1 _ refl (omega arith),
+                        (λ k o. relation-listed r s x k (omega arith)),
+                        λ _ k o _ _. listed-at 2 (k + 1) 1 15 refl (omega arith) (omega arith) refl,
                       ),
                     ),
                   ),
@@ -183,3 +313,12 @@ rules-listed r s x = (
     ),
   ),
 )
+
+-- 20 and 21
+pub asked-listed : Listed (№ 20 0 0 0)
+unfolding published oneOfFiles inSpans inSpan
+asked-listed = listed-at 0 0 0 20 refl (omega arith) (omega arith) refl
+
+pub room-listed : Listed (№ 21 0 0 0)
+unfolding published oneOfFiles inSpans inSpan
+room-listed = listed-at 0 0 0 21 refl (omega arith) (omega arith) refl

@@ -1,11 +1,4 @@
--- Numbers in the paper's words: which bytes are one, and its value. Stated of a field's bytes, so of every width and column.
---   Digits bs            = digits alone
---   valueAfter a bs      = the value of those digits, after digits that make a
---   Figures bs n         = at least one digit, to the last column, of value n
---   Justified P bs       = blanks, then columns of which P holds
---   Whole bs n           = blanks, then digits of value n
---   Minus bs n           = blanks, a minus, then digits of value n
---   Tenths P bs n        = columns of which P holds, a point and one digit: n tenths
+-- The readers of numbers say what `MeetsFields` has in words: which bytes are a number, and its value.
 use Prim.Native.Nat.{ℕ, zero, suc, _+_, _-_, _*_, _≤_}
 use native.Mathlib.Omega.{arith}
 use mathlib.Core.Path.{_≡_, refl, sym, ap, _∙_, subst}
@@ -17,6 +10,7 @@ use lib.ListN.{length, getD, take, replicate, length-append}
 use lib.Seq.{take-suc, take-all, take-at, getD-at}
 use borrow.Author.Tests.{eqb-true, eq-eqb}
 use Rattle.rules.specs.Numbers.{digit, Number, malformed, plus, minus, digitsAfter, digits, justified, whole, negative, minusOr, signed, then, decimal}
+use Rattle.rules.specs.MeetsFields.{Digit, Digits, valueAfter, Figures, Justified, Whole, Minus, Tenths}
 use Rattle.rules.proofs.Tests.{says, pick-is, yes-no}
 
 pub no-plus {ℓ} : {A : Type ℓ} {n : ℕ} → malformed ≡ plus n → A
@@ -28,20 +22,9 @@ no-minus e = absurd (let z : _≡_ {A = ℕ} 0 1 = cc in omega arith)
 no-both {ℓ} : {A : Type ℓ} {m n : ℕ} → plus m ≡ minus n → A
 no-both e = absurd (let z : _≡_ {A = ℕ} 0 1 = cc in omega arith)
 
-abbrev pub Digit : ℕ → Type 0
-Digit b = (48 ≤ b) × (b ≤ 57)
-
 pub digit-is : (b : ℕ) → (digit b ≡ true) ↔ Digit b
 unfolding digit
 digit-is b = simp says Iff·rfl
-
-abbrev pub Digits : List ℕ → Type 0
-Digits [] = Unit {0}
-Digits (b ∷ bs) = Digit b × Digits bs
-
-abbrev pub valueAfter : ℕ → List ℕ → ℕ
-valueAfter a [] = a
-valueAfter a (b ∷ bs) = valueAfter (10 * a + (b - 48)) bs
 
 digits-after-is : (bs : List ℕ) (a n : ℕ) → (digitsAfter a bs ≡ plus n) ↔ (Digits bs × (valueAfter a bs ≡ n))
 unfolding digitsAfter
@@ -53,9 +36,6 @@ digits-after-is (b ∷ bs) a n =
       λ e. let w = u .0 e in yes-no (digit b) (λ t. let v = ih .0 (w .0 t) in ((d .0 t, v .0), v .1)) (λ t. no-plus (w .1 t)),
       λ w. u .1 ((λ t. ih .1 (w .0 .1, w .1)), λ t. absurd (t (d .1 (w .0 .0)))),
     )
-
-abbrev pub Figures : List ℕ → ℕ → Type 0
-Figures bs n = (bs ≡ [] → ⊥) × Digits bs × (valueAfter 0 bs ≡ n)
 
 pub digits-are : (bs : List ℕ) (n : ℕ) → (digits bs ≡ plus n) ↔ Figures bs n
 unfolding digits
@@ -76,10 +56,6 @@ digits-plus : (bs : List ℕ) (n : ℕ) → digits bs ≡ minus n → ⊥
 unfolding digits
 digits-plus [] n e = no-minus e
 digits-plus (b ∷ bs) n e = digits-after-plus (b ∷ bs) 0 n e
-
--- blanks first
-abbrev pub Justified : (List ℕ → Type 0) → List ℕ → Type 0
-Justified P bs = (j : ℕ) × (ds : List ℕ) × (bs ≡ replicate j 32 ++ ds) × P ds
 
 module _ (read : List ℕ → Number) (v : Number) (some : malformed ≡ v → ⊥) (empty : read [] ≡ v → ⊥)
     (blank : (bs : List ℕ) → read (32 ∷ bs) ≡ v → ⊥) where
@@ -113,12 +89,6 @@ module _ (read : List ℕ → Number) (v : Number) (some : malformed ≡ v → �
             (λ t. (0, b ∷ bs, refl, w .1 t)),
         λ w. u .1 (front b bs (justified-is bs .1) (w .0) (w .1) (w .2) (w .3)),
       )
-
-abbrev pub Whole : List ℕ → ℕ → Type 0
-Whole bs n = Justified (λ ds. Figures ds n) bs
-
-abbrev pub Minus : List ℕ → ℕ → Type 0
-Minus bs n = Justified (λ ds. (es : List ℕ) × (ds ≡ 45 ∷ es) × Figures es n) bs
 
 -- what a blank cannot begin
 blank-digits : (bs : List ℕ) (n : ℕ) → digits (32 ∷ bs) ≡ plus n → ⊥
@@ -188,11 +158,6 @@ signed-minus bs n =
     (justified-is minusOr (minus n) (λ e. no-minus e) (λ e. no-minus e)
     (λ bs e. let w = minus-or-minus (32 ∷ bs) n .0 e in let p = w .1 in let z : _≡_ {A = ℕ} 32 45 = cc in omega arith) bs)
     (justify (λ ds. minus-or-minus ds n) bs)
-
--- a point and one digit after it
-abbrev pub Tenths : (List ℕ → ℕ → Type 0) → List ℕ → ℕ → Type 0
-Tenths P bs n =
-    (ws : List ℕ) × (d m : ℕ) × (bs ≡ ws ++ (46 ∷ d ∷ [])) × P ws m × Digit d × (10 * m + (d - 48) ≡ n)
 
 -- the last two columns apart
 apart : (bs : List ℕ) → 2 ≤ length bs

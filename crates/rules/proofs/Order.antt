@@ -1,56 +1,58 @@
--- Refusals 10 to 19 in the paper's words.
---   At n p i v          = the point of that name, number and index
---   PointAt f n p i j   = line j holds it
---   Earlier v w         = by day then time
---   Mates x k j         = line j is a relation line of the same tape and record as line k
---   Rule10 .. Rule19    = the rules of those numbers; Tested14 is 14 as it is tested
-use Prim.Native.Nat.{ℕ, suc, _≤_, _<_}
-use mathlib.Core.Path.{_≡_}
+-- The tests of refusals 10 to 19 say what `MeetsSet` has in words, and fail where its breaches are.
+use Prim.Native.Nat.{ℕ, suc, _+_, _≤_, _<_}
+use native.Mathlib.Omega.{arith}
+use mathlib.Core.Path.{_≡_, sym, _∙_}
 use mathlib.Core.Logic.{_↔_, _⊎_, inl, inr, ⊎-elim, Iff·rfl, Iff·trans}
-use mathlib.Core.Bool.{true, _&&_}
+use mathlib.Core.Bool.{Bool, true, not, _&&_, _||_}
 use mathlib.Core.List.{List}
 use lib.Dec.{eqb, ltb}
-use Rattle.rules.specs.Places.{some}
-use Rattle.rules.specs.Plan.{upTo, _before_}
+use Rattle.rules.specs.Places.{every, some, ifBefore, isBefore}
+use Rattle.rules.specs.Plan.{Refusal, №, fileR, fileS, fileX, need, when, upTo, _before_}
 use Rattle.rules.specs.Names.{Name}
+use Rattle.rules.specs.Layout.{letterColumn}
 use Rattle.rules.specs.Sheet.{Sheet}
+use Rattle.rules.specs.Lines.{isData}
 use Rattle.rules.specs.Points.{Point as PointValues, pointAt, isAt, samePoint}
 use Rattle.rules.specs.Relations.{Reach, Relation, reachAt, relationAt}
 use Rattle.rules.specs.Reaches.{reachesOf, ofRecord, mates, together, rises, once}
-use Rattle.rules.specs.Order.{earlier, isPointAt, shotLine, names, sameShot, receiversThere, rule10, rule11, rule12, rule13, rule14, rule15, rule16, rule17, rule18, rule19}
-use Rattle.rules.specs.Check.{relationFits}
-use Rattle.rules.proofs.Tests.{says, and-is, or-is, eqb-is, ltb-is}
-use Rattle.rules.proofs.Breach.{Met}
-use Rattle.rules.proofs.Form.{Data, data-is, Point, point-is}
-use Rattle.rules.proofs.Above.{Above, above-is}
-use Rattle.rules.proofs.Cover.{Covers, every-receiver, Meet, meet-is}
-
-abbrev pub At : Name → ℕ → ℕ → PointValues → Type 0
-At n p i v = (v .name ≡ n) × ((v .number ≡ p) × (v .index ≡ i))
+use Rattle.rules.specs.Order.{earlier, isPointAt, lineOfPoint, shotLine, names, sameShot, receiversThere}
+use Rattle.rules.specs.Order.{rule10, rule11, rule12, rule13, rule14, rule15, rule16, rule17, rule18, rule19}
+use Rattle.rules.specs.MeetsForm.{Data}
+use Rattle.rules.specs.MeetsCover.{Covers}
+use Rattle.rules.specs.MeetsSet.{Earlier, At, PointAt, Shot, Receiver, OfRecord, Mates, SameShot, Rule10, Rule11, Rule12, Rule13, Rule14, Rule15}
+use Rattle.rules.specs.MeetsSet.{Rule16, Rule17, Rule18, Rule19, Breach10, Breach11, Breach12, Breach13, Breach14, Breach15, Breach16, Breach17}
+use Rattle.rules.specs.MeetsSet.{Breach18, Breach19}
+use Rattle.rules.specs.Refuses.{by}
+use Rattle.rules.proofs.Tests.{says, and-is, or-is, not-is, imp-is, eqb-is, ltb-is, yes-no, some-is, every-is, if-before-is, is-before-is}
+use Rattle.rules.proofs.Contrary.{fails, contrary, not-and, not-every, not-imp, not-if-before}
+use Rattle.rules.proofs.Least.{least-first, least-there}
+use Rattle.rules.proofs.Breach.{Met, Broken}
+use Rattle.rules.proofs.Form.{data-is, point-is, need-breaks, when-breaks}
+use Rattle.rules.proofs.Above.{above-is}
+use Rattle.rules.proofs.Cover.{every-receiver, not-every-receiver, meet-is}
 
 pub at-is : (n : Name) (p i : ℕ) (v : PointValues) → (isAt n p i v ≡ true) ↔ At n p i v
 unfolding isAt
 at-is n p i v = simp says Iff·rfl
 
-abbrev pub PointAt : Sheet → Name → ℕ → ℕ → ℕ → Type 0
-PointAt f n p i j = Point f j × At n p i (pointAt f j)
-
 pub point-at-is : (f : Sheet) (n : Name) (p i j : ℕ) → (isPointAt f n p i j ≡ true) ↔ PointAt f n p i j
 unfolding isPointAt
 point-at-is f n p i j = simp (and-is, point-is, at-is) Iff·rfl
 
-abbrev pub Rule10 : Sheet → Type 0
-Rule10 r =
-    (k : ℕ) → k < r .count → Point r k
-    → (j : ℕ) → j < k → Point r j → ((m : ℕ) → j < m → m < k → Point r m → ⊥) → Above (r .rank) (pointAt r k) (pointAt r j)
-
-pub rule10-is : (r : Sheet) → Met (upTo (r .count) (rule10 r)) ↔ Rule10 r
+-- 10
+pub rule10-at : (r : Sheet) (k : ℕ) → Met (rule10 r k) ↔ Rule10 r k
 unfolding rule10
-rule10-is r = simp (says, point-is, above-is) Iff·rfl
+rule10-at r k = simp (says, point-is, above-is) Iff·rfl
 
-abbrev pub Earlier : PointValues → PointValues → Type 0
-Earlier v w = (v .day < w .day) ⊎ ((v .day ≡ w .day) × (v .time < w .time))
+pub rule10-is : (r : Sheet) → Met (upTo (r .count) (rule10 r)) ↔ ((k : ℕ) → k < r .count → Rule10 r k)
+rule10-is r = (λ m k h. rule10-at r k .0 (m k h), λ e k h. rule10-at r k .1 (e k h))
 
+pub rule10-breaks : (r : Sheet) (k : ℕ) (w : Refusal)
+    → Broken w (rule10 r k) ↔ by (Breach10 r k) (№ 10 fileR (k + 1) (r .layout .name .first)) w
+unfolding rule10
+rule10-breaks r k = when-breaks _ _ _ (point-is r k) (simp (fails, point-is, above-is) Iff·rfl)
+
+-- 11
 earlier-is : (v w : PointValues) → (earlier v w ≡ true) ↔ Earlier v w
 unfolding earlier
 earlier-is v w =
@@ -63,102 +65,114 @@ earlier-is v w =
       λ h. a .1 (⊎-elim (λ u. inl (d .1 u)) (λ u. inr (b .1 (e .1 (u .0), t .1 (u .1)))) h),
     )
 
-abbrev pub Rule11 : Sheet → ℕ → Type 0
-Rule11 s k =
-    Point s k
-    → (j : ℕ) → j < k → Point s j → ((m : ℕ) → j < m → m < k → Point s m → ⊥) → Earlier (pointAt s k) (pointAt s j) → ⊥
+pub rule11-is : (s : Sheet) (k : ℕ) → Met (rule11 s k) ↔ Rule11 s k
+unfolding rule11
+rule11-is s k = simp (says, point-is, earlier-is) Iff·rfl
 
-abbrev pub SamePoint : PointValues → PointValues → Type 0
-SamePoint v w = At (w .name) (w .number) (w .index) v
+pub rule11-breaks : (s : Sheet) (k : ℕ) (w : Refusal)
+    → Broken w (rule11 s k) ↔ by (Breach11 s k) (№ 11 fileS (k + 1) (s .layout .day .first)) w
+unfolding rule11
+rule11-breaks s k = when-breaks _ _ _ (point-is s k) (simp (fails, point-is, earlier-is) Iff·rfl)
 
-abbrev pub Rule12 : Sheet → ℕ → Type 0
-Rule12 s k = Point s k → (j : ℕ) → j < k → Point s j → SamePoint (pointAt s k) (pointAt s j) → ⊥
+-- 12
+pub rule12-is : (s : Sheet) (k : ℕ) → Met (rule12 s k) ↔ Rule12 s k
+unfolding rule12 samePoint
+rule12-is s k = simp (says, point-is, at-is) Iff·rfl
+
+pub rule12-breaks : (s : Sheet) (k : ℕ) (w : Refusal)
+    → Broken w (rule12 s k) ↔ by (Breach12 s k) (№ 12 fileS (k + 1) (s .layout .name .first)) w
+unfolding rule12 samePoint
+rule12-breaks s k = when-breaks _ _ _ (point-is s k) (simp (fails, point-is, at-is) Iff·rfl)
 
 pub shots-are : (s : Sheet) → Met (upTo (s .count) (λ k. rule11 s k before rule12 s k)) ↔ ((k : ℕ) → k < s .count → Rule11 s k × Rule12 s k)
-unfolding rule11 rule12 samePoint
-shots-are s = simp (says, point-is, earlier-is, at-is) Iff·rfl
+shots-are s = (
+  λ m k h. let a = m k h in (rule11-is s k .0 (a .0), rule12-is s k .0 (a .1)),
+  λ e k h. let a = e k h in (rule11-is s k .1 (a .0), rule12-is s k .1 (a .1)),
+)
 
-abbrev pub Shot : Sheet → Relation → ℕ → Type 0
-Shot s v j = PointAt s (v .source) (v .shot) (v .shotIndex) j
+-- 13
+pub rule13-is : (s x : Sheet) (k : ℕ) → Met (rule13 s x k) ↔ Rule13 s x k
+unfolding rule13
+rule13-is s x k = simp (says, point-at-is) Iff·rfl
 
-abbrev pub Receiver : Sheet → Reach → ℕ → ℕ → Type 0
-Receiver r q n j = PointAt r (q .receiver) n (q .receiverIndex) j
+pub rule13-breaks : (s x : Sheet) (k : ℕ)
+    → (some (s .count) (isPointAt s (relationAt x k .source) (relationAt x k .shot) (relationAt x k .shotIndex)) ≡ true → ⊥) ↔ Breach13 s x k
+rule13-breaks s x k = simp (fails, point-at-is) Iff·rfl
 
-abbrev pub Rule13 : Sheet → Sheet → ℕ → Type 0
-Rule13 s x k = (j : ℕ) × (j < s .count) × Shot s (relationAt x k) j
-
--- the shot of the line just before does not stand after this one's
-abbrev pub Rule14 : Sheet → Sheet → ℕ → Type 0
-Rule14 s x k =
-    (j : ℕ) → suc j ≡ k → Data x j
-    → (a b : ℕ) → a < s .count → b < s .count → Shot s (relationAt x j) a → Shot s (relationAt x k) b → a ≤ b
-
-abbrev pub Tested14 : Sheet → Sheet → ℕ → Type 0
-Tested14 s x k = (j : ℕ) → suc j ≡ k → Data x j → shotLine s (relationAt x j) ≤ shotLine s (relationAt x k)
-
-abbrev pub Rule15 : Sheet → Sheet → Type 0
-Rule15 s x =
-    (k : ℕ) → k < s .count → Point s k
-    → (j : ℕ) × (j < x .count) × (Data x j × At (relationAt x j .source) (relationAt x j .shot) (relationAt x j .shotIndex) (pointAt s k))
-
-pub rule15-is : (s x : Sheet) → Met (upTo (s .count) (rule15 s x)) ↔ Rule15 s x
+-- 15
+pub rule15-is : (s x : Sheet) (k : ℕ) → Met (rule15 s x k) ↔ Rule15 s x k
 unfolding rule15 names
-rule15-is s x = simp (says, point-is, data-is, at-is) Iff·rfl
+rule15-is s x k = simp (says, point-is, data-is, at-is) Iff·rfl
 
-abbrev pub OfRecord : List ℕ → ℕ → Reach → Type 0
-OfRecord t n q = (q .tape ≡ t) × (q .number ≡ n)
+pub rule15-breaks : (s x : Sheet) (k : ℕ) (w : Refusal)
+    → Broken w (rule15 s x k) ↔ by (Breach15 s x k) (№ 15 fileS (k + 1) letterColumn) w
+unfolding rule15 names
+rule15-breaks s x k = when-breaks _ _ _ (point-is s k) (simp (fails, and-is, data-is, at-is) Iff·rfl)
 
+-- 16
 pub of-record-is : (t : List ℕ) (n : ℕ) (q : Reach) → (ofRecord t n q ≡ true) ↔ OfRecord t n q
 unfolding ofRecord
 of-record-is t n q = simp says Iff·rfl
-
-abbrev pub Mates : Sheet → ℕ → ℕ → Type 0
-Mates x k j = Data x j × OfRecord (reachAt x k .tape) (reachAt x k .number) (reachAt x j)
 
 mates-are : (x : Sheet) (k j : ℕ) → (mates (reachesOf x) k j ≡ true) ↔ Mates x k j
 unfolding mates reachesOf
 mates-are x k j = simp (and-is, data-is, of-record-is) Iff·rfl
 
-abbrev pub SameShot : Relation → Relation → Type 0
-SameShot v w =
-    (v .source ≡ w .source)
-    × ((v .shot ≡ w .shot)
-    × ((v .shotIndex ≡ w .shotIndex) × ((v .increment ≡ w .increment) × (v .instrument ≡ w .instrument))))
-
 same-shot-is : (v w : Relation) → (sameShot v w ≡ true) ↔ SameShot v w
 unfolding sameShot
 same-shot-is v w = simp says Iff·rfl
 
-abbrev pub Rule16 : Sheet → ℕ → Type 0
-Rule16 x k =
-    ((j : ℕ) → j < k → Mates x k j → (i : ℕ) × (suc i ≡ k) × Mates x k i)
-    × ((j : ℕ) → suc j ≡ k → Mates x k j → SameShot (relationAt x k) (relationAt x j))
+pub rule16-is : (x : Sheet) (k : ℕ) → Met (rule16 x k) ↔ Rule16 x k
+unfolding rule16 together
+rule16-is x k = simp (says, mates-are, same-shot-is) Iff·rfl
 
-abbrev pub Rule17 : Sheet → ℕ → Type 0
-Rule17 x k = (j : ℕ) → suc j ≡ k → Mates x k j → reachAt x j .upto < reachAt x k .from
+pub rule16-breaks : (x : Sheet) (k : ℕ)
+    → ((together (reachesOf x) k && ifBefore (λ j. not (mates (reachesOf x) k j) || sameShot (relationAt x k) (relationAt x j)) k) ≡ true → ⊥)
+    ↔ Breach16 x k
+unfolding together
+rule16-breaks x k =
+    let Q = reachesOf x in
+    let apart : (every k (λ j. not (mates Q k j) || isBefore (mates Q k) k) ≡ true → ⊥)
+    ↔ ((j : ℕ) × (j < k) × (Mates x k j × ((i : ℕ) → suc i ≡ k → Mates x k i → ⊥))) = simp (fails, mates-are) Iff·rfl in
+    let other : (ifBefore (λ j. not (mates Q k j) || sameShot (relationAt x k) (relationAt x j)) k ≡ true → ⊥)
+    ↔ ((j : ℕ) × (suc j ≡ k) × (Mates x k j × (SameShot (relationAt x k) (relationAt x j) → ⊥))) =
+    simp (fails, mates-are, same-shot-is) Iff·rfl in
+    let b =
+    not-and (every k (λ j. not (mates Q k j) || isBefore (mates Q k) k))
+    (ifBefore (λ j. not (mates Q k j) || sameShot (relationAt x k) (relationAt x j)) k) in (
+      λ n. ⊎-elim (λ u. inl (apart .0 u)) (λ u. inr (other .0 u)) (b .0 n),
+      λ w. b .1 (⊎-elim (λ u. inl (apart .1 u)) (λ u. inr (other .1 u)) w),
+    )
 
-abbrev pub Rule18 : Sheet → Sheet → ℕ → Type 0
-Rule18 r x k = (n : ℕ) → Covers (reachAt x k) n → (j : ℕ) × (j < r .count) × Receiver r (reachAt x k) n j
+-- 17
+pub rule17-is : (x : Sheet) (k : ℕ) → (rises (reachesOf x) k ≡ true) ↔ Rule17 x k
+unfolding rises reachesOf
+rule17-is x k = simp (says, mates-are) Iff·rfl
 
-abbrev pub Rule19 : Sheet → ℕ → Type 0
-Rule19 x k = (j : ℕ) → j < k → Mates x k j → Meet (reachAt x k) (reachAt x j) → ⊥
+pub rule17-breaks : (x : Sheet) (k : ℕ) → (rises (reachesOf x) k ≡ true → ⊥) ↔ Breach17 x k
+unfolding rises reachesOf
+rule17-breaks x k = simp (fails, mates-are) Iff·rfl
 
-receivers-there : (r : Sheet) (q : Reach)
+-- 18
+pub receivers-there : (r : Sheet) (q : Reach)
     → (receiversThere r q ≡ true) ↔ ((n : ℕ) → Covers q n → (j : ℕ) × (j < r .count) × Receiver r q n j)
 unfolding receiversThere
 receivers-there r q =
     Iff·trans (every-receiver q (λ n. some (r .count) (isPointAt r (q .receiver) n (q .receiverIndex))))
     (simp (says, point-at-is) Iff·rfl)
 
-once-is : (x : Sheet) (k : ℕ) → (once (reachesOf x) k ≡ true) ↔ Rule19 x k
+pub receivers-missing : (r : Sheet) (q : Reach)
+    → (receiversThere r q ≡ true → ⊥) ↔ ((n : ℕ) × Covers q n × ((j : ℕ) → j < r .count → Receiver r q n j → ⊥))
+unfolding receiversThere
+receivers-missing r q =
+    Iff·trans (not-every-receiver q (λ n. some (r .count) (isPointAt r (q .receiver) n (q .receiverIndex))))
+    (simp (fails, point-at-is) Iff·rfl)
+
+-- 19
+pub once-is : (x : Sheet) (k : ℕ) → (once (reachesOf x) k ≡ true) ↔ Rule19 x k
 unfolding once reachesOf
 once-is x k = simp (says, mates-are, meet-is) Iff·rfl
 
-abbrev pub Tested : Sheet → Sheet → Sheet → ℕ → Type 0
-Tested r s x k =
-    Data x k → Rule13 s x k × (Tested14 s x k × (Rule16 x k × (Rule17 x k × (Rule18 r x k × Rule19 x k))))
-
-pub relation-fits-is : (r s x : Sheet) (k : ℕ) → Met (relationFits r s x k) ↔ Tested r s x k
-unfolding relationFits rule13 rule14 rule16 rule17 rule18 rule19 together rises reachesOf
-relation-fits-is r s x k =
-    simp (receivers-there, once-is, mates-are, same-shot-is, point-at-is, data-is, says) Iff·rfl
+pub once-breaks : (x : Sheet) (k : ℕ) → (once (reachesOf x) k ≡ true → ⊥) ↔ Breach19 x k
+unfolding once reachesOf
+once-breaks x k = simp (fails, mates-are, meet-is) Iff·rfl

@@ -1,5 +1,4 @@
 -- The lookup's search: the relation line of a tape and record that passes a test, or none.
---   Of x t n k       = line k is a relation line of that tape and record
 --   Found p k        = it passes the test p too
 --   Absent p         = no line does
 use Prim.Native.Nat.{ℕ, _<_}
@@ -11,23 +10,21 @@ use Rattle.rules.specs.Sheet.{Sheet}
 use Rattle.rules.specs.Lines.{isData}
 use Rattle.rules.specs.Relations.{Reach, reachAt}
 use Rattle.rules.specs.Reaches.{reachesOf, ofRecord, search}
+use Rattle.rules.specs.MeetsQuestions.{Of}
 use Rattle.rules.proofs.Tests.{and-is}
 use Rattle.rules.proofs.Least.{least-is, least-first}
-use Rattle.rules.proofs.Form.{Data, data-is}
-use Rattle.rules.proofs.Order.{OfRecord, of-record-is}
+use Rattle.rules.proofs.Form.{data-is}
+use Rattle.rules.proofs.Order.{of-record-is}
 
 module _ (x : Sheet) (t : List ℕ) (n : ℕ) where
-  abbrev pub Of : ℕ → Type 0
-  Of k = Data x k × OfRecord t n (reachAt x k)
-
   abbrev pub Found : (Reach → Bool) → ℕ → Type 0
-  Found p k = (k < x .count) × (Of k × (p (reachAt x k) ≡ true))
+  Found p k = (k < x .count) × (Of x t n k × (p (reachAt x k) ≡ true))
 
   abbrev pub Absent : (Reach → Bool) → Type 0
-  Absent p = (k : ℕ) → k < x .count → Of k → p (reachAt x k) ≡ true → ⊥
+  Absent p = (k : ℕ) → k < x .count → Of x t n k → p (reachAt x k) ≡ true → ⊥
 
   passes : (p : Reach → Bool) (k : ℕ)
-      → (isData x k && (ofRecord t n (reachAt x k) && p (reachAt x k)) ≡ true) ↔ (Of k × (p (reachAt x k) ≡ true))
+      → (isData x k && (ofRecord t n (reachAt x k) && p (reachAt x k)) ≡ true) ↔ (Of x t n k × (p (reachAt x k) ≡ true))
   passes p k =
       let b = and-is (isData x k) (ofRecord t n (reachAt x k) && p (reachAt x k)) in
       let c = and-is (ofRecord t n (reachAt x k)) (p (reachAt x k)) in
@@ -43,7 +40,7 @@ module _ (x : Sheet) (t : List ℕ) (n : ℕ) where
       ⊎-elim (λ w. inl (w .0, passes p _ .0 (w .1))) (λ w. inr (w .0, λ k h o e. w .1 k h (passes p k .1 (o, e))))
       (least-is (x .count) (λ k. isData x k && (ofRecord t n (reachAt x k) && p (reachAt x k))))
 
-  pub search-first : (p : Reach → Bool) (k : ℕ) → Found p k → ((j : ℕ) → j < k → Of j → p (reachAt x j) ≡ true → ⊥)
+  pub search-first : (p : Reach → Bool) (k : ℕ) → Found p k → ((j : ℕ) → j < k → Of x t n j → p (reachAt x j) ≡ true → ⊥)
       → search (reachesOf x) t n p ≡ k
   unfolding search reachesOf
   search-first p k w f =

@@ -8,7 +8,8 @@ use mathlib.Core.List.{List, [], _∷_}
 use lib.Dec.{eqb}
 use lib.ListN.{length, getD, take, length-take}
 use Rattle.rules.specs.Places.{pick}
-use Rattle.rules.specs.Numbers.{digit, Number, malformed, plus, minus, digitsAfter, digits, justified, whole, negative, minusOr, signed, then, decimal, size}
+use Rattle.rules.specs.Numbers.{digit, Number, malformed, plus, minus, digitsAfter, digits, justified}
+use Rattle.rules.specs.Numbers.{whole, negative, minusOr, signed, then, decimal, size}
 use Rattle.rules.proofs.Tests.{says}
 use Rattle.rules.proofs.Numbers.{digit-is}
 

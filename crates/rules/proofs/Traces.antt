@@ -1,5 +1,4 @@
 -- Demand 3 of what is found in an accepted set: the lookup's answer and the way back.
---   Leads p m q            = the relation line leads to component m of the receiver p
 --   Arrives t n c l m      = channel c leads to component m of the receiver in R line l, and back
 use Prim.Native.Nat.{ℕ, _+_, _-_, _≤_, _<_}
 use native.Mathlib.Omega.{arith}
@@ -19,12 +18,14 @@ use Rattle.rules.specs.Reaches.{reachesOf, search}
 use Rattle.rules.specs.Order.{receiverLine}
 use Rattle.rules.specs.Check.{Answer, trace, channel, noTrace}
 use Rattle.rules.specs.Lookup.{found, foundBack, reaches}
+use Rattle.rules.specs.MeetsCover.{Carries, Reached}
+use Rattle.rules.specs.MeetsSet.{Receiver}
+use Rattle.rules.specs.Meets.{Meets}
+use Rattle.rules.specs.MeetsQuestions.{Of, Stands, Leads, Uncovered, Unreached}
 use Rattle.rules.proofs.Tests.{says, clash}
-use Rattle.rules.proofs.Form.{Point, point-is}
-use Rattle.rules.proofs.Cover.{Carries, covers-is, carries-is, Reached, reached, channel-back, carried, leads-back, component-back}
-use Rattle.rules.proofs.Order.{Receiver}
-use Rattle.rules.proofs.Meets.{Meets}
-use Rattle.rules.proofs.Search.{Of, Found, Absent, search-is, search-first}
+use Rattle.rules.proofs.Form.{point-is}
+use Rattle.rules.proofs.Cover.{covers-is, carries-is, reached, channel-back, carried, leads-back, component-back}
+use Rattle.rules.proofs.Search.{Found, Absent, search-is, search-first}
 use Rattle.rules.proofs.Accepted.{receiver-line, sound, one-channel, one-receiver, receiver-there}
 
 abbrev pub given : Sheet → Reach → ℕ → Answer
@@ -42,16 +43,9 @@ found-view r x t n c =
     inr (w .1, rw (le-ltb _ _ l)))
     (search-is x t n (λ q. carries q c))
 
-abbrev pub Leads : PointValues → ℕ → Reach → Type 0
-Leads p m q = (q .receiver ≡ p .name) × ((q .receiverIndex ≡ p .index) × Reached q (p .number) m)
-
 pub leads-is : (p : PointValues) (m : ℕ) (q : Reach) → (reaches p m q ≡ true) ↔ Leads p m q
 unfolding reaches
 leads-is p m q = simp (says, covers-is) Iff·rfl
-
--- R line j is a receiver
-abbrev pub Stands : Sheet → ℕ → Type 0
-Stands r j = (1 ≤ j) × ((j ≤ r .count) × Point r (j - 1))
 
 stands-is : (r : Sheet) (j : ℕ) → (leb 1 j && (leb j (r .count) && isPoint r (j - 1)) ≡ true) ↔ Stands r j
 stands-is r j = simp (says, point-is) Iff·rfl
@@ -94,7 +88,7 @@ returned r x t n c j m e =
 
 -- no trace, exactly where no line carries the channel; no way back, exactly where none leads to the receiver
 pub not-carried : (r x : Sheet) (t : List ℕ) (n c : ℕ)
-    → (found r x t n c ≡ noTrace) ↔ ((k : ℕ) → k < x .count → Of x t n k → Carries (reachAt x k) c → ⊥)
+    → (found r x t n c ≡ noTrace) ↔ Uncovered x t n c
 not-carried r x t n c = (
   λ e k h o u.
       ⊎-elim (λ w. let f = w .2 in let z : _≡_ {A = ℕ} 0 1 = cc in omega arith) (λ w. w .0 k h o (carries-is _ c .1 u))
@@ -104,7 +98,7 @@ not-carried r x t n c = (
 
 pub not-reached : (r x : Sheet) (t : List ℕ) (n j m : ℕ)
     → (foundBack r x t n j m ≡ noTrace)
-    ↔ (Stands r j → (k : ℕ) → k < x .count → Of x t n k → Leads (pointAt r (j - 1)) m (reachAt x k) → ⊥)
+    ↔ Unreached r x t n j m
 not-reached r x t n j m = (
   λ e y k h o u.
       ⊎-elim (λ w. let f = w .1 .2 in let z : _≡_ {A = ℕ} 0 1 = cc in omega arith) (λ w. w .0 y k h o (leads-is _ m _ .1 u))

@@ -43,7 +43,7 @@ relations x = count (x .count) (isData x)
 unfoldable pub allTraces : Sheet → ℕ
 allTraces x = sum (x .count) (λ k. pick (isData x k) (traces (reachAt x k)) 0)
 
--- what a call answers; `unless` a plan refuses first
+-- what a call answers
 pub data Answer : Type 0 where
   accepted : (receivers shots relations traces : ℕ) → Answer
   refusal : Refusal → Answer

@@ -1,12 +1,11 @@
 -- The disc form: "A line is 80 columns, then CR (13) and LF (10): 82 bytes."
 --   printable b     = the bytes of columns 1 to 80
 --   byteFits c b    = what a byte in column c of the 82 may be
---   strayFrom c bs  = the first column, from c on, whose byte is not; 0 where there is none
 --   disc L f        = the bytes of a disc file as a sheet
 --   file f          = the same, by the text of 1993
-use Prim.Native.Nat.{ℕ, suc, _*_, _/_, _%_}
+use Prim.Native.Nat.{ℕ, _*_, _/_, _%_}
 use mathlib.Core.Bool.{Bool, _&&_}
-use mathlib.Core.List.{List, [], _∷_}
+use mathlib.Core.List.{List}
 use lib.Dec.{eqb, leb}
 use lib.ListN.{length, take, drop}
 use Rattle.rules.specs.Places.{pick}
@@ -19,17 +18,14 @@ printable b = leb 32 b && leb b 126
 unfoldable pub byteFits : ℕ → ℕ → Bool
 byteFits c b = pick (leb c 80) (printable b) (pick (eqb c 81) (eqb b 13) (eqb b 10))
 
-unfoldable pub strayFrom : ℕ → List ℕ → ℕ
-strayFrom c [] = 0
-strayFrom c (b ∷ bs) = let more = strayFrom (suc c) bs in pick (byteFits c b) more c
-
 unfoldable pub disc : Layout → List ℕ → Sheet
 disc L f =
     record {
       count = length f / 82;
       left = length f % 82;
       row = λ k. take 80 (drop (82 * k) f);
-      stray = λ k. strayFrom 1 (take 82 (drop (82 * k) f));
+      raw = λ k. take 82 (drop (82 * k) f);
+      takes = byteFits;
       rank = λ b. b;
       layout = L;
     }

@@ -1,9 +1,11 @@
 -- The form of a file: refusals 1 to 6. File i, line k of it, the line's columns l.
+--   strayFrom t c bs = the first column, from c on, whose byte t does not take; 0 where there is none
+--   stray f k        = that of line k, in the medium's own bytes
 --   rule1 .. rule6   = the refusals of those numbers
 --   fieldsFit        = 5 over the rows of a table, from the left
 --   lineFits i f k   = 3 (whole line), 4, 5, 6 of line k
 --   form i f         = 1, 2, then line by line
-use Prim.Native.Nat.{ℕ, _+_, _/_, _%_, min}
+use Prim.Native.Nat.{ℕ, suc, _+_, _/_, _%_, min}
 use mathlib.Core.Bool.{Bool, false, not, _&&_}
 use mathlib.Core.List.{List, [], _∷_}
 use lib.Dec.{eqb, leb}
@@ -27,8 +29,15 @@ unfoldable pub rule2 : ℕ → Sheet → Plan
 rule2 i f = need (leb (f .count) mostLines) (№ 2 i (mostLines + 1) 0)
 
 -- 3: a byte outside its range
+unfoldable pub strayFrom : (ℕ → ℕ → Bool) → ℕ → List ℕ → ℕ
+strayFrom takes c [] = 0
+strayFrom takes c (b ∷ bs) = let more = strayFrom takes (suc c) bs in pick (takes c b) more c
+
+unfoldable pub stray : Sheet → ℕ → ℕ
+stray f k = strayFrom (f .takes) 1 (f .raw k)
+
 unfoldable pub rule3 : ℕ → Sheet → ℕ → Plan
-rule3 i f k = let c = f .stray k in need (eqb c 0) (№ 3 i (k + 1) c)
+rule3 i f k = let c = stray f k in need (eqb c 0) (№ 3 i (k + 1) c)
 
 -- 4: column 1 not H or the file's letter, or H after data
 unfoldable pub rule4 : ℕ → Sheet → ℕ → Plan

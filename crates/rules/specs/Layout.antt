@@ -4,6 +4,8 @@
 --   Layout         = a span for each field of header, point and relation lines, and the largest point, record and channel
 --   sps93          = the text of 1993
 --   at l s         = the columns of a span in a line
+-- The paper's names of a relation line's fields: number is the field record, increment the record increment, source, shot and shotIndex the
+-- source line name, point and index, from and upto the channels F and T, step the channel increment I, receiver the receiver line name.
 use Prim.Native.Nat.{ℕ}
 use mathlib.Core.List.{List}
 use Rattle.rules.specs.Text.{cols}

@@ -23,3 +23,13 @@ pub mod Spread
 pub mod Show
 pub mod Hosts
 pub mod SetA
+pub mod MeetsFields
+pub mod MeetsForm
+pub mod MeetsDisc
+pub mod MeetsHeaders
+pub mod MeetsCover
+pub mod MeetsSet
+pub mod Meets
+pub mod Refuses
+pub mod Listed
+pub mod MeetsQuestions

@@ -3,6 +3,7 @@
 --   Relation        = the reach, its shot, the record increment and the instrument
 --   reachAt x k     = the reach of line k
 --   relationAt x k  = the relation of line k
+-- Fields are named as in `Layout`, whose head has the paper's names: number the field record, step the channel increment I, from F, upto T.
 use Prim.Native.Nat.{ℕ}
 use mathlib.Core.List.{List}
 use Rattle.rules.specs.Names.{Name}

@@ -1,6 +1,7 @@
 -- A sheet: a file as the rules see it, whatever its medium. Lines count from 0 here, so that the paper's line is k + 1.
 --   mostLines = at most so many lines a file
 use Prim.Native.Nat.{ℕ}
+use mathlib.Core.Bool.{Bool}
 use mathlib.Core.List.{List}
 use Rattle.rules.specs.Layout.{Layout}
 
@@ -11,10 +12,11 @@ pub record Sheet : Type 0 where
   -- how many whole lines, and how many bytes are left over after them
   pub count : ℕ
   pub left : ℕ
-  -- line k as 80 columns
+  -- line k as 80 columns, and in the medium's own bytes
   pub row : ℕ → List ℕ
-  -- the first column of line k whose byte the medium does not take; 0 where it takes all
-  pub stray : ℕ → ℕ
+  pub raw : ℕ → List ℕ
+  -- the medium takes that byte in that column of its own
+  pub takes : ℕ → ℕ → Bool
   -- the medium's own byte of a character, by which names are in order
   pub rank : ℕ → ℕ
   -- the columns by which its lines are read

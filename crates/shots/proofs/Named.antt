@@ -24,8 +24,10 @@ use Rattle.rules.proofs.Tests.{clash, and-is, not-is, some-is, imp-is, if-befor
 use Rattle.rules.proofs.Breach.{run-met}
 use Rattle.rules.proofs.Steps.{need-met, need-broken, when-on, when-off}
 use Rattle.rules.proofs.Least.{least-is, least-there, least-below}
-use Rattle.rules.proofs.Form.{Rule4, data-is, point-is}
-use Rattle.rules.proofs.Order.{At as IsAt, at-is, point-at-is}
+use Rattle.rules.specs.MeetsForm.{Rule4}
+use Rattle.rules.specs.MeetsSet.{At as IsAt}
+use Rattle.rules.proofs.Form.{data-is, point-is}
+use Rattle.rules.proofs.Order.{at-is, point-at-is}
 use Rattle.lines.proofs.Tests.{untrue}
 use Rattle.form.proofs.Known.{formed}
 use Rattle.keys.specs.Held.{RelationLine, KnownShots}

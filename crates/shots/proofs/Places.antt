@@ -22,8 +22,9 @@ use Rattle.rules.proofs.Tests.{and-is, some-is, imp-is, if-before-is, yes-no, m
 use Rattle.rules.proofs.Breach.{run-met}
 use Rattle.rules.proofs.Steps.{need-met, need-broken, before-met, before-broken}
 use Rattle.rules.proofs.Least.{least-is, least-first, least-none, least-there}
-use Rattle.rules.proofs.Order.{Rule12, point-at-is, shots-are}
-use Rattle.rules.proofs.Meets.{shot-line}
+use Rattle.rules.specs.MeetsSet.{Rule12}
+use Rattle.rules.proofs.Order.{point-at-is, shots-are}
+use Rattle.rules.proofs.Refuses.{shot-line}
 use Rattle.lines.proofs.Tests.{untrue}
 use Rattle.keys.specs.Held.{shotFits, KnownShots}
 use Rattle.shots.specs.Places.{isShot, onward, placeBefore, shotFound}

@@ -32,7 +32,8 @@ use Rattle.rules.proofs.Breach.{run-met}
 use Rattle.rules.proofs.Form.{data-is}
 use Rattle.rules.proofs.Order.{rule10-is, point-at-is}
 use Rattle.rules.proofs.Cover.{Sound, every-receiver}
-use Rattle.rules.proofs.Meets.{Meets, verdict-meets}
+use Rattle.rules.specs.Meets.{Meets}
+use Rattle.rules.proofs.Meets.{verdict-meets}
 use Rattle.rules.proofs.Accepted.{sound}
 use Rattle.lines.specs.Reading.{sheetOf}
 use Rattle.lines.specs.declared.Reading.{Reading}

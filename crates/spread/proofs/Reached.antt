@@ -13,7 +13,8 @@ use Rattle.rules.specs.Cover.{receivers, receiverOn, carries, leads, component}
 use Rattle.rules.specs.Order.{receiverLine}
 use Rattle.rules.specs.Spread.{Put}
 use Rattle.rules.proofs.Tests.{agree, and-is}
-use Rattle.rules.proofs.Cover.{Carries, Reached, reached}
+use Rattle.rules.specs.MeetsCover.{Carries, Reached}
+use Rattle.rules.proofs.Cover.{reached}
 use Rattle.form.proofs.Known.{upto-small}
 use Rattle.keys.specs.Held.{RelationLine}
 use Rattle.order.specs.Sorted.{nth}

@@ -18,10 +18,13 @@ use Rattle.rules.specs.Lookup.{found}
 use Rattle.rules.specs.Spread.{componentOf, highestOf, turns, Put}
 use Rattle.rules.proofs.Tests.{clash, and-is, some-is}
 use Rattle.rules.proofs.Steps.{some-none}
-use Rattle.rules.proofs.Form.{Data, data-is}
-use Rattle.rules.proofs.Order.{OfRecord, of-record-is}
-use Rattle.rules.proofs.Cover.{Carries, carries-is}
-use Rattle.rules.proofs.Search.{Of}
+use Rattle.rules.specs.MeetsForm.{Data}
+use Rattle.rules.proofs.Form.{data-is}
+use Rattle.rules.specs.MeetsSet.{OfRecord}
+use Rattle.rules.proofs.Order.{of-record-is}
+use Rattle.rules.specs.MeetsCover.{Carries}
+use Rattle.rules.proofs.Cover.{carries-is}
+use Rattle.rules.specs.MeetsQuestions.{Of}
 use Rattle.rules.proofs.Traces.{given, found-trace, not-carried}
 use Rattle.rules.proofs.Spreads.{highest-is}
 use Rattle.lines.proofs.Tests.{untrue}

@@ -5,14 +5,15 @@ use mathlib.Core.Path.{_≡_, _∙_}
 use lib.ListN.{take, drop}
 use borrow.Author.Needs.{needs}
 use borrow.Author.Tests.{not-true, not-false}
-use Rattle.rules.specs.Disc.{strayFrom}
+use Rattle.rules.specs.Disc.{byteFits}
+use Rattle.rules.specs.Form.{strayFrom}
 use Rattle.lines.proofs.Laws.{stray-end, stray-stop, stray-step}
 use Rattle.lines.proofs.Sheets.{place, stray-from}
 use Rattle.lines.proofs.first_stray.Statement.{statement}
 use Rattle.lines.proofs.first_stray.Tie as tie
 
 abbrev Inv-loop : tie.InvT-loop
-Inv-loop f k w at c₀ c = (c ≤ w) × (strayFrom (c + 1) (take (w - c) (drop (at + c) f)) ≡ strayFrom 1 (take w (drop at f)))
+Inv-loop f k w at c₀ c = (c ≤ w) × (strayFrom byteFits (c + 1) (take (w - c) (drop (at + c) f)) ≡ strayFrom byteFits 1 (take w (drop at f)))
 
 abbrev μ-loop : tie.MeasureT-loop
 μ-loop f k w at c₀ c = w - c

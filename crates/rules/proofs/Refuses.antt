@@ -1,0 +1,312 @@
+-- The order of checks as the code runs it is the order in words: it is met where each rule holds, and its first breach is the same.
+--   Same p o     = a plan and an order in words
+--   rules-same   = the whole order
+use Prim.Native.Nat.{ℕ, zero, suc, _+_, _≤_, _<_}
+use native.Mathlib.Nat.{not-suc-le-zero, lt-suc-self}
+use native.Mathlib.Omega.{arith}
+use mathlib.Core.Path.{_≡_, refl, sym, ap, _∙_}
+use mathlib.Core.Logic.{_↔_, _⊎_, inl, inr, ⊎-elim, Iff·rfl, Iff·trans}
+use mathlib.Core.Bool.{Bool, true, not, _&&_, _||_}
+use lib.Dec.{eqb, leb, ltb}
+use borrow.Author.Tests.{ltb-true, lt-ltb}
+use Rattle.rules.specs.Places.{some, ifBefore}
+use Rattle.rules.specs.Plan.{Refusal, №, Plan, fileR, fileS, fileX, need, _before_, upTo, when}
+use Rattle.rules.specs.Layout.{letterColumn}
+use Rattle.rules.specs.Sheet.{Sheet, mostLines}
+use Rattle.rules.specs.Lines.{isHeader, isData, heads}
+use Rattle.rules.specs.Relations.{Relation, reach, relationAt, reachAt}
+use Rattle.rules.specs.Form.{rule1, rule2, rule3, rule4, rule5, rule6, lineFits, form}
+use Rattle.rules.specs.Headers.{rule7, rule8, rule9}
+use Rattle.rules.specs.Order.{lineOfPoint, shotLine, rule10, rule11, rule12, rule13, rule14, rule15, rule16, rule17, rule18, rule19}
+use Rattle.rules.specs.Check.{relationFits, rules}
+use Rattle.rules.specs.MeetsForm.{Data, Relates, Rule6, Breach6}
+use Rattle.rules.specs.MeetsHeaders.{Rule8, Breach8}
+use Rattle.rules.specs.MeetsSet.{Shot, Rule12, Rule13, Rule14, Breach14}
+use Rattle.rules.specs.Refuses.{Order, look, _then_, lineByLine, Kept, First, by, inColumn, lineOrder, formOrder, headerOrder, shotOrder, related}
+use Rattle.rules.specs.Refuses.{relationOrder, order}
+use Rattle.rules.proofs.Tests.{says, more, yes-no, eqb-is, leb-is}
+use Rattle.rules.proofs.Contrary.{contrary, not-leb, fails}
+use Rattle.rules.proofs.Least.{least-first}
+use Rattle.rules.proofs.Breach.{Met, Broken}
+use Rattle.rules.proofs.Form.{header-is, data-is, need-breaks, rule3-is, rule3-breaks, rule4-is}
+use Rattle.rules.proofs.Form.{rule4-breaks, rule5-is, rule5-breaks, rule6-is, rule6-breaks}
+use Rattle.rules.proofs.Headers.{in-header, heads-few, rule7-is, rule7-breaks, rule8-is, rule8-breaks, rule9-is, rule9-breaks}
+use Rattle.rules.proofs.Order.{point-at-is, rule10-at, rule10-breaks, rule11-is, rule11-breaks, rule12-is, rule12-breaks, rule13-is, rule13-breaks}
+use Rattle.rules.proofs.Order.{rule15-is, rule15-breaks, rule16-is, rule16-breaks, rule17-is, rule17-breaks, receivers-there, receivers-missing}
+use Rattle.rules.proofs.Order.{once-is, once-breaks, shots-are}
+
+pub record Same (p : Plan) (o : Order) : Type 0 where
+  pub met : Met p ↔ Kept o
+  pub broken : (w : Refusal) → Broken w p ↔ First o w
+
+pub same-look : {p : Plan} {R : Type 0} {B : Refusal → Type 0} → Met p ↔ R → ((w : Refusal) → Broken w p ↔ B w) → Same p (look R B)
+same-look m b = record { met = m; broken = b }
+
+-- one after the other: the second is looked for where the first is met
+pub same-then : {p q : Plan} {o u : Order} → Same p o → (Met p → Same q u) → Same (p before q) (o then u)
+unfolding Broken
+same-then s f =
+    record {
+      met = (
+        λ m. (s .met .0 (m .0), f (m .0) .met .0 (m .1)),
+        λ k. let m = s .met .1 (k .0) in (m, f m .met .1 (k .1)),
+      );
+      broken = λ w. (
+        λ b. ⊎-elim (λ h. inl (s .broken w .0 h)) (λ h. inr (s .met .0 (h .0), f (h .0) .broken w .0 (h .1))) b,
+        λ b. ⊎-elim (λ h. inl (s .broken w .1 h)) (λ h. let m = s .met .1 (h .0) in inr (m, f m .broken w .1 (h .1))) b,
+      );
+    }
+
+-- line by line: of a line where those before it are met
+module _ (n : ℕ) (p : ℕ → Plan) (o : ℕ → Order) (f : (k : ℕ) → k < n → ((j : ℕ) → j < k → Met (p j)) → Same (p k) (o k)) where
+  earlier-met : (k : ℕ) → k ≤ n → ((j : ℕ) → j < k → Kept (o j)) → (j : ℕ) → j < k → Met (p j)
+  earlier-met zero h g j l = absurd (not-suc-le-zero l)
+  earlier-met (suc k) h g j l =
+      let ih = earlier-met k (omega arith) (λ j l. g j (omega arith)) in
+      more l (ih j) (λ e. let m = f k (omega arith) ih .met .1 (g k (lt-suc-self k)) in rw e m)
+
+  pub same-lines : Same (upTo n p) (lineByLine n o)
+  unfolding Broken
+  same-lines =
+      record {
+        met = (
+          λ m k h. f k h (λ j l. m j (omega arith)) .met .0 (m k h),
+          λ g. earlier-met n (omega arith) g,
+        );
+        broken = λ w. (
+          λ b. (
+            b .0,
+            b .1,
+            (λ j l. let h = b .1 in f j (omega arith) (λ i e. b .2 i (omega arith)) .met .0 (b .2 j l)),
+            f (b .0) (b .1) (b .2) .broken w .0 (b .3),
+          ),
+          λ b.
+              let h = b .1 in
+              let m = earlier-met (b .0) (omega arith) (b .2) in
+              (b .0, b .1, m, f (b .0) (b .1) m .broken w .1 (b .3)),
+        );
+      }
+
+-- the same of fewer lines, where the others have nothing to break
+same-fewer : (m n : ℕ) (p : ℕ → Plan) (o : ℕ → Order) → m ≤ n → ((k : ℕ) → k < m → Same (p k) (o k))
+    → ((k : ℕ) → m ≤ k → Kept (o k)) → ((k : ℕ) (w : Refusal) → First (o k) w → k < m) → Same (upTo m p) (lineByLine n o)
+unfolding Broken
+same-fewer m n p o l f g h =
+    record {
+      met = (
+        λ y k b. below k (λ q. f k q .met .0 (y k q)),
+        λ y k b. f k b .met .1 (y k (omega arith)),
+      );
+      broken = λ w. (
+        λ b.
+            let q = b .1 in
+            (b .0, omega arith, (λ j e. below j (λ z. f j z .met .0 (b .2 j e))), f (b .0) q .broken w .0 (b .3)),
+        λ b.
+            let q = h (b .0) w (b .3) in
+            (b .0, q, (λ j e. f j (omega arith) .met .1 (b .2 j e)), f (b .0) q .broken w .1 (b .3)),
+      );
+    }
+  where
+    below : (k : ℕ) → (k < m → Kept (o k)) → Kept (o k)
+    below k y = yes-no (ltb k m) (λ t. y (ltb-true k m t)) (λ t. g k (let n : k < m → ⊥ = λ l. t (lt-ltb k m l) in omega arith))
+
+-- where a test passes: each of two
+same-when : (t : Bool) {p q : Plan} {o : Order} → Same (when t p before when t q) o → Same (when t (p before q)) o
+unfolding Broken
+same-when t s =
+    record {
+      met = (
+        λ m. s .met .0 ((λ e. m e .0), λ e. m e .1),
+        λ k e. let m = s .met .1 k in (m .0 e, m .1 e),
+      );
+      broken = λ w. (
+        λ b. s .broken w .0 (⊎-elim (λ h. inl (b .0, h)) (λ h. inr ((λ _. h .0), (b .0, h .1))) (b .1)),
+        λ b.
+            ⊎-elim (λ h. (h .0, inl (h .1))) (λ h. let e = h .1 .0 in (e, inr (h .0 e, h .1 .1))) (s .broken w .1 b),
+      );
+    }
+
+-- the form of a file
+module _ (i : ℕ) (f : Sheet) where
+  six : ℕ → Plan
+  six k = when (not (isHeader (f .row k)) && eqb i fileX) (rule6 (f .layout) k (reach (f .layout) (f .row k)))
+
+  relates-is : (k : ℕ) → (not (isHeader (f .row k)) && eqb i fileX ≡ true) ↔ Relates i f k
+  relates-is k = simp (says, header-is) Iff·rfl
+
+  six-is : (k : ℕ) → Met (six k) ↔ Rule6 i f k
+  unfolding six reachAt
+  six-is k = let d = relates-is k in let b = rule6-is _ k _ in (λ m z. b .0 (m (d .1 z)), λ g z. b .1 (g (d .0 z)))
+
+  six-breaks : (k : ℕ) (w : Refusal) → Broken w (six k) ↔ inColumn (Breach6 i f k) (№ 6 fileX (k + 1)) w
+  unfolding six reachAt Broken
+  six-breaks k w =
+      let d = relates-is k in
+      let b = rule6-breaks _ k _ w in
+      (λ y. let v = b .0 (y .1) in (v .0, (d .0 (y .0), v .1), v .2), λ y. (d .1 (y .1 .0), b .1 (y .0, y .1 .1, y .2)))
+
+  line-same : (k : ℕ) → Same (lineFits i f k) (lineOrder i f k)
+  unfolding lineFits six
+  line-same k =
+      same-then (same-look (rule3-is i f k) (rule3-breaks i f k))
+      (λ _.
+      same-then (same-look (rule4-is i f k) (rule4-breaks i f k))
+      (λ _.
+      same-then (same-look (rule5-is i (f .layout) k (f .row k)) (rule5-breaks i (f .layout) k (f .row k)))
+      (λ _. same-look (six-is k) (six-breaks k))))
+
+  pub form-same : Same (form i f) (formOrder i f)
+  unfolding form rule1 rule2
+  form-same =
+      let left = eqb-is (f .left) 0 in
+      same-then (same-look left (need-breaks _ _ (contrary left)))
+      (λ _.
+      same-then (same-look (leb-is (f .count) mostLines) (need-breaks _ _ (not-leb (f .count) mostLines)))
+      (λ _. same-lines (f .count) (lineFits i f) (lineOrder i f) (λ k h _. line-same k)))
+
+-- a shot stands in one line, which is shotLine
+module _ (s : Sheet) (rule12 : (k : ℕ) → k < s .count → Rule12 s k) where
+  pub shot-line : (v : Relation) (a : ℕ) → a < s .count → Shot s v a → shotLine s v ≡ a
+  unfolding shotLine lineOfPoint
+  shot-line v a h t =
+      least-first _ a _ (
+        h,
+        point-at-is _ _ _ _ _ .1 t,
+        λ j l u.
+            let w = point-at-is _ _ _ _ _ .0 u in
+            rule12 a h (t .0) j l (w .0)
+            (t .1 .0 ∙ sym (w .1 .0), (t .1 .1 .0 ∙ sym (w .1 .1 .0), t .1 .1 .1 ∙ sym (w .1 .1 .1))),
+      )
+
+-- 14, where each shot stands in one line and 13 is met so far
+module _ (s x : Sheet) (rule12 : (k : ℕ) → k < s .count → Rule12 s k) (k : ℕ)
+    (just : (j : ℕ) → suc j ≡ k → Data x j → Rule13 s x j) (here : Rule13 s x k) where
+  lines-rise : Bool
+  lines-rise = ifBefore (λ j. not (isData x j) || leb (shotLine s (relationAt x j)) (shotLine s (relationAt x k))) k
+
+  line : (v : Relation) (a : ℕ) → a < s .count → Shot s v a → shotLine s v ≡ a
+  line = shot-line s rule12
+
+  rise-is : (lines-rise ≡ true) ↔ ((j : ℕ) → suc j ≡ k → Data x j → shotLine s (relationAt x j) ≤ shotLine s (relationAt x k))
+  unfolding lines-rise
+  rise-is = simp (says, data-is) Iff·rfl
+
+  fall-is : (lines-rise ≡ true → ⊥)
+      ↔ ((j : ℕ) × (suc j ≡ k) × (Data x j × (shotLine s (relationAt x k) < shotLine s (relationAt x j))))
+  unfolding lines-rise
+  fall-is = simp (fails, data-is) Iff·rfl
+
+  fourteen-is : (lines-rise ≡ true) ↔ Rule14 s x k
+  fourteen-is = (
+    λ e j n y a b ha hb ta tb.
+        let p = rise-is .0 e j n y in
+        let ea = line (relationAt x j) a ha ta in
+        let eb = line (relationAt x k) b hb tb in
+        omega arith,
+    λ g.
+        rise-is .1
+        (λ j n y.
+        let a = just j n y in
+        let ea = line (relationAt x j) (a .0) (a .1) (a .2) in
+        let eb = line (relationAt x k) (here .0) (here .1) (here .2) in
+        let le = g j n y (a .0) (here .0) (a .1) (here .1) (a .2) (here .2) in
+        omega arith),
+  )
+
+  fourteen-breaks : (lines-rise ≡ true → ⊥) ↔ Breach14 s x k
+  fourteen-breaks = (
+    λ e.
+        let f = fall-is .0 e in
+        let a = just (f .0) (f .1) (f .2 .0) in
+        let l = f .2 .1 in
+        let ea = line (relationAt x (f .0)) (a .0) (a .1) (a .2) in
+        let eb = line (relationAt x k) (here .0) (here .1) (here .2) in
+        (f .0, f .1, f .2 .0, (a .0, here .0, a .1, here .1, a .2, here .2, omega arith)),
+    λ b e.
+        let y = b .3 in
+        let p = rise-is .0 e (b .0) (b .1) (b .2) in
+        let l = y .6 in
+        let ea = line (relationAt x (b .0)) (y .0) (y .2) (y .4) in
+        let eb = line (relationAt x k) (y .1) (y .3) (y .5) in
+        omega arith,
+  )
+
+-- a rule of a relation line, by its test
+related-same : (x : Sheet) (k : ℕ) (t : Bool) (v : Refusal) {R B : Type 0} → (Data x k → (t ≡ true) ↔ R) → (Data x k → (t ≡ true → ⊥) ↔ B)
+    → Same (when (isData x k) (need t v)) (related x k R B v)
+unfolding Broken
+related-same x k t v y n =
+    let d = data-is x k in
+    same-look (λ m z. y z .0 (m (d .1 z)), λ g z. y (d .0 z) .1 (g (d .0 z)))
+    (λ w. (
+      λ b. let z = d .0 (b .0) in ((z, n z .0 (b .1 .0)), b .1 .1),
+      λ b. let z = b .0 .0 in (d .1 z, (n z .1 (b .0 .1), b .1)),
+    ))
+
+module _ (r s x : Sheet) (shots : Met (upTo (s .count) (λ k. rule11 s k before rule12 s k))) where
+  -- 13 of the lines before
+  thirteen : (j : ℕ) → Met (relationFits r s x j) → Data x j → Rule13 s x j
+  unfolding relationFits
+  thirteen j m z = rule13-is s x j .0 (m (data-is x j .1 z) .0)
+
+  relation-same : (k : ℕ) → ((j : ℕ) → j < k → Met (relationFits r s x j)) → Same (relationFits r s x k) (relationOrder r s x k)
+  unfolding relationFits rule13 rule14 rule16 rule17 rule18 rule19 lines-rise
+  relation-same k earlier =
+      let d = isData x k in
+      let just : (j : ℕ) → suc j ≡ k → Data x j → Rule13 s x j = λ j n z. thirteen j (earlier j (omega arith)) z in
+      let twelve : (k : ℕ) → k < s .count → Rule12 s k = λ k h. shots-are s .0 shots k h .1 in
+      same-when d
+      (same-then (related-same x k _ _ (λ _. rule13-is s x k) (λ _. rule13-breaks s x k))
+      (λ m.
+      let here : Data x k → Rule13 s x k = λ z. rule13-is s x k .0 (m (data-is x k .1 z)) in
+      same-when d
+      (same-then (related-same x k _ _ (λ z. fourteen-is s x twelve k just (here z)) (λ z. fourteen-breaks s x twelve k just (here z)))
+      (λ _.
+      same-when d
+      (same-then (related-same x k _ _ (λ _. rule16-is x k) (λ _. rule16-breaks x k))
+      (λ _.
+      same-when d
+      (same-then (related-same x k _ _ (λ _. rule17-is x k) (λ _. rule17-breaks x k))
+      (λ _.
+      same-when d
+      (same-then (related-same x k _ _ (λ _. receivers-there r (reachAt x k)) (λ _. receivers-missing r (reachAt x k)))
+      (λ _. related-same x k _ _ (λ _. once-is x k) (λ _. once-breaks x k)))))))))))
+
+-- 9 of file i
+headers-same : (i : ℕ) (r f : Sheet) → Same (rule9 i r f) (headerOrder i r f)
+headers-same i r f = same-look (rule9-is i r f) (rule9-breaks i r f)
+
+projections-same : (r : Sheet)
+    → Same (upTo (heads r) (rule8 r))
+    (lineByLine (r .count) (λ k. look (Rule8 r k) (by (Breach8 r k) (№ 8 fileR (k + 1) (r .layout .headerText .first)))))
+projections-same r =
+    same-fewer (heads r) (r .count) _ _ (heads-few r) (λ k h. same-look (rule8-is r k h) (rule8-breaks r k h))
+    (λ k l i. absurd (let h = in-header r k .1 i in omega arith)) (λ k w b. in-header r k .1 (b .0 .0))
+
+pub rules-same : (r s x : Sheet) → Same (rules r s x) (order r s x)
+unfolding rules
+rules-same r s x =
+    same-then (form-same fileR r)
+    (λ _.
+    same-then (form-same fileS s)
+    (λ _.
+    same-then (form-same fileX x)
+    (λ _.
+    same-then (same-look (rule7-is r) (rule7-breaks r))
+    (λ _.
+    same-then (projections-same r)
+    (λ _.
+    same-then (headers-same fileS r s)
+    (λ _.
+    same-then (headers-same fileX r x)
+    (λ _.
+    same-then (same-lines (r .count) (rule10 r) _ (λ k _ _. same-look (rule10-at r k) (rule10-breaks r k)))
+    (λ _.
+    same-then (same-lines (s .count) _ (shotOrder s) (λ k _ _. shot-same k))
+    (λ shots.
+    same-then (same-lines (x .count) (relationFits r s x) (relationOrder r s x) (λ k _ m. relation-same r s x shots k m))
+    (λ _. same-lines (s .count) (rule15 s x) _ (λ k _ _. same-look (rule15-is s x k) (rule15-breaks s x k))))))))))))
+  where
+    shot-same : (k : ℕ) → Same (rule11 s k before rule12 s k) (shotOrder s k)
+    shot-same k =
+        same-then (same-look (rule11-is s k) (rule11-breaks s k)) (λ _. same-look (rule12-is s k) (rule12-breaks s k))

@@ -1,0 +1,98 @@
+-- The questions in words: which can be asked, in which order they are refused, and what is covered.
+--   Asked L t n               = a tape and a record in range
+--   AskedChannel, AskedLine   = a channel; an R line and a component
+--   Unasked ..                = the contrary of each
+--   Of x t n k                = line k is a relation line of that tape and record
+--   Stands r j                = R line j is a receiver
+--   Leads p m q               = the relation line leads to component m of the receiver p
+--   Uncovered x t n c         = no relation line of that tape and record carries channel c
+--   Unreached r x t n j m     = none leads to component m of the receiver in R line j, or no receiver stands there
+--   Highest x t n h           = h is the record's highest covered channel; 0 where the record is absent
+--   Room, Short               = both spread slices, of a and b places, have a place for each channel up to it; one has not
+--   lookupOrder, wayBackOrder, spreadOrder = "20 comes before 1 to 19, and 21 after them"
+use Prim.Native.Nat.{ℕ, _+_, _-_, _≤_, _<_}
+use mathlib.Core.Path.{_≡_}
+use mathlib.Core.Logic.{_⊎_}
+use mathlib.Core.List.{List}
+use lib.ListN.{length, getD}
+use Rattle.rules.specs.Plan.{№}
+use Rattle.rules.specs.Text.{col}
+use Rattle.rules.specs.Layout.{Layout}
+use Rattle.rules.specs.Sheet.{Sheet, mostLines}
+use Rattle.rules.specs.Points.{Point as PointValues, pointAt}
+use Rattle.rules.specs.Relations.{Reach, reachAt}
+use Rattle.rules.specs.MeetsForm.{Data, Point}
+use Rattle.rules.specs.MeetsDisc.{Printable}
+use Rattle.rules.specs.MeetsCover.{Carries, Reached}
+use Rattle.rules.specs.MeetsSet.{OfRecord}
+use Rattle.rules.specs.Refuses.{Order, look, _then_, by, order}
+
+-- 20: "tape not 6 columns of bytes 32-126 starting with a non-blank, record above 9999, channel or R line not 1-9999, component not 1-9"
+abbrev pub Asked : Layout → List ℕ → ℕ → Type 0
+Asked L t n =
+    (length t ≡ L .tape .last + 1 - L .tape .first)
+    × (((i : ℕ) → i < length t → Printable (getD t i 0)) × ((col t 1 ≡ 32 → ⊥) × (n ≤ L .mostRecord)))
+
+abbrev pub Unasked : Layout → List ℕ → ℕ → Type 0
+Unasked L t n =
+    (length t ≡ L .tape .last + 1 - L .tape .first → ⊥)
+    ⊎ (((i : ℕ) × (i < length t) × (Printable (getD t i 0) → ⊥)) ⊎ ((col t 1 ≡ 32) ⊎ (L .mostRecord < n)))
+
+abbrev pub AskedChannel : Layout → ℕ → Type 0
+AskedChannel L c = (1 ≤ c) × (c ≤ L .mostChannel)
+
+abbrev pub UnaskedChannel : Layout → ℕ → Type 0
+UnaskedChannel L c = (c ≡ 0) ⊎ (L .mostChannel < c)
+
+abbrev pub AskedLine : ℕ → ℕ → Type 0
+AskedLine j m = ((1 ≤ j) × (j ≤ mostLines)) × ((1 ≤ m) × (m ≤ 9))
+
+abbrev pub UnaskedLine : ℕ → ℕ → Type 0
+UnaskedLine j m = ((j ≡ 0) ⊎ (mostLines < j)) ⊎ ((m ≡ 0) ⊎ (9 < m))
+
+abbrev pub Of : Sheet → List ℕ → ℕ → ℕ → Type 0
+Of x t n k = Data x k × OfRecord t n (reachAt x k)
+
+abbrev pub Stands : Sheet → ℕ → Type 0
+Stands r j = (1 ≤ j) × ((j ≤ r .count) × Point r (j - 1))
+
+abbrev pub Leads : PointValues → ℕ → Reach → Type 0
+Leads p m q = (q .receiver ≡ p .name) × ((q .receiverIndex ≡ p .index) × Reached q (p .number) m)
+
+abbrev pub Uncovered : Sheet → List ℕ → ℕ → ℕ → Type 0
+Uncovered x t n c = (k : ℕ) → k < x .count → Of x t n k → Carries (reachAt x k) c → ⊥
+
+abbrev pub Unreached : Sheet → Sheet → List ℕ → ℕ → ℕ → ℕ → Type 0
+Unreached r x t n j m =
+    Stands r j → (k : ℕ) → k < x .count → Of x t n k → Leads (pointAt r (j - 1)) m (reachAt x k) → ⊥
+
+-- 21: "either spread slice is shorter than the record's highest channel"
+abbrev pub Absent : Sheet → List ℕ → ℕ → Type 0
+Absent x t n = (k : ℕ) → k < x .count → Of x t n k → ⊥
+
+abbrev pub Highest : Sheet → List ℕ → ℕ → ℕ → Type 0
+Highest x t n h =
+    ((k : ℕ) → k < x .count → Of x t n k → reachAt x k .upto ≤ h)
+    × ((Absent x t n × (h ≡ 0)) ⊎ ((k : ℕ) × (k < x .count) × Of x t n k × (reachAt x k .upto ≡ h)))
+
+abbrev pub Room : Sheet → List ℕ → ℕ → ℕ → ℕ → Type 0
+Room x t n a b = (h : ℕ) × Highest x t n h × ((h ≤ a) × (h ≤ b))
+
+abbrev pub Short : Sheet → List ℕ → ℕ → ℕ → ℕ → Type 0
+Short x t n a b = (h : ℕ) × Highest x t n h × ((a < h) ⊎ (b < h))
+
+abbrev pub asking : Type 0 → Type 0 → Order → Order
+asking A U o = look A (by U (№ 20 0 0 0)) then o
+
+abbrev pub lookupOrder : Sheet → Sheet → Sheet → List ℕ → ℕ → ℕ → Order
+lookupOrder r s x t n c =
+    asking (Asked (x .layout) t n × AskedChannel (x .layout) c) (Unasked (x .layout) t n ⊎ UnaskedChannel (x .layout) c) (order r s x)
+
+abbrev pub wayBackOrder : Sheet → Sheet → Sheet → List ℕ → ℕ → ℕ → ℕ → Order
+wayBackOrder r s x t n j m =
+    asking (Asked (x .layout) t n × AskedLine j m) (Unasked (x .layout) t n ⊎ UnaskedLine j m) (order r s x)
+
+abbrev pub spreadOrder : Sheet → Sheet → Sheet → List ℕ → ℕ → ℕ → ℕ → Order
+spreadOrder r s x t n a b =
+    asking (Asked (x .layout) t n) (Unasked (x .layout) t n)
+    (order r s x then look (Room x t n a b) (by (Short x t n a b) (№ 21 0 0 0)))

@@ -1,0 +1,84 @@
+-- The number of an answer tells it, where the answer is that of the definitions.
+--   setOf, questionOf, spreadOf = the code's answer of a paper's
+use Prim.Native.Nat.{ℕ, _+_, _*_, _/_, _%_, _^_, _≤_, _<_}
+use native.Mathlib.Omega.{arith}
+use mathlib.Core.Path.{_≡_, refl, sym, ap, subst, _∙_}
+use mathlib.Core.Logic.{⊎-elim}
+use mathlib.Core.List.{List}
+use Rattle.rules.specs.Plan.{Refusal, №, Verdict, fine, refused, run}
+use Rattle.rules.specs.Sheet.{Sheet}
+use Rattle.rules.specs.Check.{Answer, accepted, refusal, trace, channel, highest, noTrace, verdict, answer, points, relations, allTraces, check}
+use Rattle.rules.specs.Lookup.{found, foundBack, lookup, wayBack}
+use Rattle.rules.specs.Spread.{highestOf, spreadVerdict, spread}
+use Rattle.rules.specs.Hosts.{packed, hostNumber}
+use Rattle.rules.specs.Listed.{Listed}
+use Rattle.rules.proofs.Traces.{found-view, back-view}
+use Rattle.rules.proofs.Listed.{listed-within}
+use Rattle.rules.proofs.Hosts.{Sized, refusal-parts}
+use Rattle.sets.specs.declared.Answer.{Answer as SetAnswer}
+use Rattle.sets.specs.declared.Answer.the-variants.{Accepted, Refused as SetRefused}
+use Rattle.sets.specs.Paper.{paper as setPaper}
+use Rattle.traces.specs.declared.Answer.{Answer as Question}
+use Rattle.traces.specs.declared.Answer.the-variants.{Trace, Channel, NoTrace, Refused}
+use Rattle.traces.specs.declared.Spread.{Spread}
+use Rattle.traces.specs.declared.Spread.the-variants.{Highest, Refused as Denied}
+use Rattle.traces.specs.Paper.{paper as questionPaper, paperSpread}
+use Rattle.sps.specs.Said.{RefusedAs, TellsSet, Tells, TellsSpread}
+
+refused-as : (i f l c : ℕ) → Listed (№ i f l c) → (n : ℕ) → n ≡ packed (№ i f l c) → RefusedAs n i f l c
+unfolding packed
+refused-as i f l c w n e =
+    let o = listed-within i f l c w .0 .0 in
+    (omega arith, rw e (refusal-parts i f l c w))
+
+pub tells-set : (v : SetAnswer) → Sized (setPaper v) → (n : ℕ) → n ≡ hostNumber (setPaper v) → TellsSet n v
+unfolding hostNumber
+tells-set (Accepted a b c t) z n e = (rw e z, e)
+tells-set (SetRefused i f l c) z n e = refused-as i f l c z n e
+
+pub tells : (v : Question) → Sized (questionPaper v) → (n : ℕ) → n ≡ hostNumber (questionPaper v) → Tells n v
+unfolding hostNumber
+tells (Trace l m) z n e =
+    let p = z .0 in
+    let q = z .1 .1 in
+    (omega arith, (omega arith, (omega arith, z .1 .0)))
+tells (Channel c) z n e = let p = z .1 in (omega arith, (e, z .0))
+tells NoTrace z n e = e
+tells (Refused i f l c) z n e = refused-as i f l c z n e
+
+pub tells-spread : (v : Spread) → Sized (paperSpread v) → (n : ℕ) → n ≡ hostNumber (paperSpread v) → TellsSpread n v
+unfolding hostNumber
+tells-spread (Highest h) z n e = (omega arith, e)
+tells-spread (Denied i f l c) z n e = refused-as i f l c z n e
+
+-- what the definitions answer is an answer of the code
+pub set-answer : (r s x : Sheet) → (v : SetAnswer) × (setPaper v ≡ check r s x)
+unfolding check answer
+set-answer r s x = go (verdict r s x)
+  where
+    go : (u : Verdict) → (v : SetAnswer) × (setPaper v ≡ answer u (accepted (points r) (points s) (relations x) (allTraces x)))
+    go fine = (Accepted (points r) (points s) (relations x) (allTraces x), refl)
+    go (refused (№ i f l c)) = (SetRefused i f l c, refl)
+
+after : (u : Verdict) (a : Answer) → (v : Question) × (questionPaper v ≡ a) → (v : Question) × (questionPaper v ≡ answer u a)
+unfolding answer
+after fine a w = w
+after (refused (№ i f l c)) a w = (Refused i f l c, refl)
+
+pub lookup-answer : (r s x : Sheet) (t : List ℕ) (n c : ℕ) → (v : Question) × (questionPaper v ≡ lookup r s x t n c)
+unfolding lookup
+lookup-answer r s x t n c =
+    after (run _) (found r x t n c) (⊎-elim (λ w. (Trace _ _, sym (w .2))) (λ w. (NoTrace, sym (w .1))) (found-view r x t n c))
+
+pub back-answer : (r s x : Sheet) (t : List ℕ) (n j m : ℕ) → (v : Question) × (questionPaper v ≡ wayBack r s x t n j m)
+unfolding wayBack
+back-answer r s x t n j m =
+    after (run _) (foundBack r x t n j m) (⊎-elim (λ w. (Channel _, sym (w .1 .2))) (λ w. (NoTrace, sym (w .1))) (back-view r x t n j m))
+
+pub spread-answer : (r s x : Sheet) (t : List ℕ) (n a b : ℕ) → (v : Spread) × (paperSpread v ≡ spread r s x t n a b)
+unfolding spread answer
+spread-answer r s x t n a b = go (spreadVerdict r s x t n a b)
+  where
+    go : (u : Verdict) → (v : Spread) × (paperSpread v ≡ answer u (highest (highestOf x t n)))
+    go fine = (Highest (highestOf x t n), refl)
+    go (refused (№ i f l c)) = (Denied i f l c, refl)

@@ -1,0 +1,33 @@
+-- What a host reads off the number that a call gives it, in words: "A C host gets one 64-bit number: a refusal as number * 2^40 + file * 2^32
+-- + line * 256 + column (R 1, S 2, X 3); otherwise the traces, the R line * 16 + component, the channel, or the highest channel, and 0 where
+-- there is none."
+--   RefusedAs n i f l c  = n is that refusal, and its parts come back
+--   TellsSet n a         = n is the number of an answer to the set check
+--   Tells n a            = n is the number of an answer to a question
+--   TellsSpread n a      = n is the number of an answer of the spread table
+use Prim.Native.Nat.{ℕ, _/_, _%_, _^_, _≤_, _<_}
+use mathlib.Core.Path.{_≡_}
+use Rattle.sets.specs.declared.Answer.{Answer as SetAnswer}
+use Rattle.sets.specs.declared.Answer.the-variants.{Accepted, Refused as SetRefused}
+use Rattle.traces.specs.declared.Answer.{Answer}
+use Rattle.traces.specs.declared.Answer.the-variants.{Trace, Channel, NoTrace, Refused}
+use Rattle.traces.specs.declared.Spread.{Spread}
+use Rattle.traces.specs.declared.Spread.the-variants.{Highest, Refused as Denied}
+
+abbrev pub RefusedAs : ℕ → ℕ → ℕ → ℕ → ℕ → Type 0
+RefusedAs n i f l c =
+    (2 ^ 40 ≤ n) × ((n / 2 ^ 40 ≡ i) × ((n / 2 ^ 32 % 256 ≡ f) × ((n / 256 % 2 ^ 24 ≡ l) × (n % 256 ≡ c))))
+
+abbrev pub TellsSet : ℕ → SetAnswer → Type 0
+TellsSet n (Accepted a b c t) = (n < 2 ^ 40) × (n ≡ t)
+TellsSet n (SetRefused i f l c) = RefusedAs n i f l c
+
+abbrev pub Tells : ℕ → Answer → Type 0
+Tells n (Trace l m) = (n < 2 ^ 40) × ((n / 16 ≡ l) × ((n % 16 ≡ m) × (1 ≤ m)))
+Tells n (Channel c) = (n < 2 ^ 40) × ((n ≡ c) × (1 ≤ c))
+Tells n NoTrace = n ≡ 0
+Tells n (Refused i f l c) = RefusedAs n i f l c
+
+abbrev pub TellsSpread : ℕ → Spread → Type 0
+TellsSpread n (Highest h) = (n < 2 ^ 40) × (n ≡ h)
+TellsSpread n (Denied i f l c) = RefusedAs n i f l c
