@@ -1,12 +1,9 @@
--- Demands 1 and 2 of the call `check`, from its contract.
---   demand-1   = for every three byte strings the call ends, and what it answers meets the contract; one-answer = that is one answer
---   Judged     = accepted exactly when every rule is met, with the counts of the set; refused by a number and place exactly when that
---                rule is broken there and nothing before it in the order is
---   demand-2   = what the call answers is so judged
+-- Demands 1 and 2 of the calls `check` and `check_on`, from their contracts.
 use Prim.Native.Nat.{ℕ}
 use native.Mathlib.Omega.{arith}
-use mathlib.Core.Path.{_≡_, sym, ap, _∙_}
+use mathlib.Core.Path.{_≡_, sym, ap, subst, _∙_}
 use mathlib.Core.Logic.{_↔_, Iff·trans}
+use mathlib.Core.List.{List}
 use contract.Lifetimes.{Lfts}
 use denote.Ref.{now}
 use denote.Triple.Clauses.{AtExit}
@@ -15,30 +12,28 @@ use Rattle.outcome.specs.One.{One}
 use Rattle.rules.specs.Plan.{Refusal, Verdict, fine, refused, №}
 use Rattle.rules.specs.Sheet.{Sheet}
 use Rattle.rules.specs.Disc.{file}
+use Rattle.rules.specs.Check.{accepted, refusal, verdict, answer, points, relations, allTraces, check as checkOf}
+use Rattle.rules.specs.Meets.{Meets}
+use Rattle.rules.specs.Refuses.{Refuses}
+use Rattle.rules.specs.Listed.{Listed}
+use Rattle.rules.proofs.Meets.{verdict-meets, verdict-refuses}
+use Rattle.rules.proofs.Counts.{accepted-is}
+use Rattle.rules.proofs.Hosts.{Sized, check-sized}
 use Rattle.lines.specs.Reading.{sheetOf}
-use Rattle.rules.specs.Check.{accepted, refusal, rules, verdict, answer, points, relations, allTraces, check as checkOf}
-use Rattle.rules.proofs.Breach.{Broken}
-use Rattle.rules.proofs.Meets.{Meets, verdict-meets, verdict-refuses}
-use Rattle.rules.proofs.Counts.{Counted, accepted-is}
+use Rattle.lines.proofs.Sheets.{sheet-is}
 use Rattle.sets.specs.declared.Answer.{Answer}
 use Rattle.sets.specs.declared.Answer.the-variants.{Accepted, Refused}
 use Rattle.sets.specs.Paper.{paper}
-use Rattle.sets.proofs.One.{answer-one, check-one}
+use Rattle.sets.specs.Judged.{Judged}
+use Rattle.sets.proofs.One.{answer-one, check-one, check-on-one}
 use Rattle.sets.proofs.check as check
 use Rattle.sets.proofs.check.Reads as check-reads
 use Rattle.sets.proofs.check.Statement.{statement}
 use Rattle.sets.proofs.check.Met.{met}
-
-pub demand-1 : {M : Type 1} → statement M
-demand-1 = met
-
-pub one-answer : One check.ended check-reads.Post
-one-answer = check-one
-
-pub record Judged (r s x : Sheet) (v : Answer) : Type 0 where
-  pub accepted-when : ((n : ℕ) × (m : ℕ) × (k : ℕ) × (t : ℕ) × (v ≡ Accepted n m k t)) ↔ Meets r s x
-  pub counts-of : (n m k t : ℕ) → v ≡ Accepted n m k t → Counted r s x n m k t
-  pub refused-when : (n f l c : ℕ) → (v ≡ Refused n f l c) ↔ Broken (№ n f l c) (rules r s x)
+use Rattle.sets.proofs.check_on as check-on
+use Rattle.sets.proofs.check_on.Reads as check-on-reads
+use Rattle.sets.proofs.check_on.Statement.{statement as statement-on}
+use Rattle.sets.proofs.check_on.Met.{met as met-on}
 
 -- an answer is a refusal exactly where the verdict is
 refusal-is : (u : Verdict) (n m k t : ℕ) (w : Refusal) → (answer u (accepted n m k t) ≡ refusal w) ↔ (u ≡ refused w)
@@ -52,7 +47,7 @@ module _ (r s x : Sheet) where
   unfolding checkOf answer
   when-met m = rw (verdict-meets r s x .1 m)
 
-  when-broken : (w : Refusal) → (checkOf r s x ≡ refusal w) ↔ Broken w (rules r s x)
+  when-broken : (w : Refusal) → (checkOf r s x ≡ refusal w) ↔ Refuses r s x w
   unfolding checkOf
   when-broken w =
       Iff·trans (refusal-is (verdict r s x) (points r) (points s) (relations x) (allTraces x) w) (verdict-refuses r s x w)
@@ -70,7 +65,43 @@ module _ (r s x : Sheet) where
             (λ y. b .0 (sym e ∙ ap paper y), λ y. answer-one v (Refused n f l c) (e ∙ b .1 y));
       }
 
+listed : (r s x : List ℕ) (v : Answer) → paper v ≡ checkOf (file r) (file s) (file x) → (n f l c : ℕ) → v ≡ Refused n f l c → Listed (№ n f l c)
+listed r s x v e n f l c y = subst Sized (sym e ∙ ap paper y) (check-sized r s x)
+
+-- 1: "The checker takes three byte strings of every length and content and ends with a verdict, whatever the caller did or did not look at."
+pub demand-1 : {M : Type 1} → statement M
+demand-1 = met
+
+pub demand-1-on : {M : Type 1} → statement-on M
+demand-1-on = met-on
+
+pub one-answer : One check.ended check-reads.Post
+one-answer = check-one
+
+pub one-answer-on : One check-on.ended check-on-reads.Post
+one-answer-on = check-on-one
+
+-- "A refusal is one number, file, line and column from the published order of checks, and writes nothing into lent memory." Both calls are
+-- lent files alone, which their types keep as they are.
+pub from-the-list : (κs : Lfts 3) (a : ArgsD check.signature κs) (v : ResD check.signature κs) (w : AtExit check.ended κs)
+    → check-reads.Post κs a v w → (n f l c : ℕ) → v ≡ Refused n f l c → Listed (№ n f l c)
+unfolding sheetOf
+from-the-list κs a v w p = listed (now (a .0)) (now (a .1 .0)) (now (a .1 .1 .0)) v p
+
+pub from-the-list-on : (κs : Lfts 3) (a : ArgsD check-on.signature κs) (v : ResD check-on.signature κs) (w : AtExit check-on.ended κs)
+    → check-on-reads.Post κs a v w → (n f l c : ℕ) → v ≡ Refused n f l c → Listed (№ n f l c)
+from-the-list-on κs a v w p =
+    listed (now (a .1 .0)) (now (a .1 .1 .0)) (now (a .1 .1 .1 .0)) v
+    (rw (sheet-is (a .0) (now (a .1 .0)), sheet-is (a .0) (now (a .1 .1 .0)), sheet-is (a .0) (now (a .1 .1 .1 .0))) at p)
+
+-- 2: "A set is accepted exactly when it meets the SPS text of 1993 as narrowed in document 01; otherwise the refusal is the first breach in
+-- the stated order. The counts returned on acceptance are those of the set."
 pub demand-2 : (κs : Lfts 3) (a : ArgsD check.signature κs) (v : ResD check.signature κs) (w : AtExit check.ended κs)
     → check-reads.Post κs a v w → Judged (file (now (a .0))) (file (now (a .1 .0))) (file (now (a .1 .1 .0))) v
 unfolding sheetOf
 demand-2 κs a v w p = judged (file (now (a .0))) (file (now (a .1 .0))) (file (now (a .1 .1 .0))) v p
+
+pub demand-2-on : (κs : Lfts 3) (a : ArgsD check-on.signature κs) (v : ResD check-on.signature κs) (w : AtExit check-on.ended κs)
+    → check-on-reads.Post κs a v w
+    → Judged (sheetOf (a .0) (now (a .1 .0))) (sheetOf (a .0) (now (a .1 .1 .0))) (sheetOf (a .0) (now (a .1 .1 .1 .0))) v
+demand-2-on κs a v w p = judged (sheetOf (a .0) (now (a .1 .0))) (sheetOf (a .0) (now (a .1 .1 .0))) (sheetOf (a .0) (now (a .1 .1 .1 .0))) v p

@@ -1,106 +1,207 @@
--- Demand 3 of the calls `trace`, `channel`, `spread_table` and `spread_bytes`, and of their twins, from their contracts: what they answer
--- of an accepted set, by how the files are read. On disc that is `onDisc`.
---   leads          = a channel that a relation line carries leads to one R line and component: those of the line's arithmetic, and that
---                    line holds the receiver of that name, number and index
---   never-shared   = two channels of a tape and record never lead to the same
---   there-and-back = the way back of a lookup's answer is that channel, and the lookup of a way back's answer is that line and component
---   agrees         = where the spread table is filled, each place up to the highest channel has what the lookup of its channel answers,
---                    and bytes-agree = the same of the byte form
---   no-trace       = a channel is answered "no trace" exactly where no relation line carries it, and no-way-back = the same of the way back
-use Prim.Native.Nat.{ℕ, _+_, _-_, _/_, _≤_, _<_}
-use native.Mathlib.Omega.{arith}
-use mathlib.Core.Path.{_≡_, refl, sym, ap, _∙_}
-use mathlib.Core.Logic.{_↔_, Iff·trans}
+-- Demand 3 of the calls `trace`, `channel`, `spread_table` and `spread_bytes`, and of their twins `trace_on`, `channel_on`, `spread_on` and
+-- `bytes_on`, from their contracts. The twins read the files by `how`; the others read files on disc.
+--   Record                    = which record of which set is asked for
+--   traced, came-back         = what one answer says
+--   never-shared, there-and-back = what two answers of one record say
+--   tabled, bytes-tabled      = what the spread table says, and what stands in its slices
+--   agrees, bytes-agree       = it agrees with the lookup
+use Prim.Native.Nat.{ℕ, _+_, _*_, _/_, _≤_, _<_}
+use mathlib.Core.Path.{_≡_, refl, sym, ap, subst, _∙_}
+use mathlib.Core.Logic.{_↔_}
 use mathlib.Core.List.{List}
+use contract.Lifetimes.{Lfts}
+use denote.Ref.{now}
+use denote.Triple.Clauses.{AtExit}
+use borrow.Fn.World.{ArgsD, ResD}
 use lib.ListN.{length, getD}
-use Rattle.rules.specs.Plan.{fine}
 use Rattle.rules.specs.Sheet.{Sheet}
-use Rattle.rules.specs.Points.{pointAt}
-use Rattle.rules.specs.Relations.{reachAt}
-use Rattle.rules.specs.Cover.{leads as leadsTo, component}
 use Rattle.rules.specs.Check.{Answer as PaperAnswer}
-use Rattle.rules.specs.Spread.{lineOf, highestOf, place, bytePlace, spreadVerdict, slice}
+use Rattle.rules.specs.Spread.{lineOf, componentOf}
 use Rattle.rules.specs.Hosts.{numbersOf}
-use Rattle.rules.proofs.Form.{Data}
-use Rattle.rules.proofs.Cover.{Carries}
-use Rattle.rules.proofs.Order.{Receiver}
-use Rattle.rules.proofs.Meets.{Meets}
-use Rattle.rules.proofs.Search.{Of}
-use Rattle.rules.proofs.Traces.{Leads, Stands}
-use Rattle.rules.proofs.Demand3.{Asked, AskedChannel, AskedLine, Askable, lookup-leads, lookup-once, there-and-back as forth-and-back, lookup-none, back-none}
+use Rattle.rules.specs.Meets.{Meets}
+use Rattle.rules.proofs.Demand3.{Askable}
 use Rattle.rules.proofs.Disc.{askable}
-use Rattle.rules.proofs.Turns.{numbers-length}
-use Rattle.rules.proofs.Spreads.{spread-fine, slice-agrees, slice-numbers}
-use Rattle.lines.specs.Reading.{sheetOf}
+use Rattle.lines.specs.Reading.{onDisc, sheetOf}
 use Rattle.lines.specs.declared.Reading.{Reading}
 use Rattle.lines.proofs.Sheets.{sheet-is}
 use Rattle.traces.specs.declared.Answer.{Answer}
-use Rattle.traces.specs.declared.Answer.the-variants.{Trace, Channel, NoTrace}
+use Rattle.traces.specs.declared.Answer.the-variants.{Trace, Channel}
+use Rattle.traces.specs.declared.Spread.{Spread}
+use Rattle.traces.specs.declared.Spread.the-variants.{Highest}
 use Rattle.traces.specs.Paper.{paper}
 use Rattle.traces.specs.Calls.{lookupOn, wayBackOn}
-use Rattle.traces.proofs.One.{answer-one}
+use Rattle.traces.specs.Said.{Traced, Returned, Tabled}
+use Rattle.traces.proofs.Told as told
+use Rattle.traces.proofs.trace as trace
+use Rattle.traces.proofs.trace.Reads as trace-reads
+use Rattle.traces.proofs.trace_on as trace-on
+use Rattle.traces.proofs.trace_on.Reads as trace-on-reads
+use Rattle.traces.proofs.channel as channel
+use Rattle.traces.proofs.channel.Reads as channel-reads
+use Rattle.traces.proofs.channel_on as channel-on
+use Rattle.traces.proofs.channel_on.Reads as channel-on-reads
+use Rattle.traces.proofs.spread_table as spread-table
+use Rattle.traces.proofs.spread_table.Reads as spread-table-reads
+use Rattle.traces.proofs.spread_on as spread-on
+use Rattle.traces.proofs.spread_on.Reads as spread-on-reads
+use Rattle.traces.proofs.spread_bytes as spread-bytes
+use Rattle.traces.proofs.spread_bytes.Reads as spread-bytes-reads
+use Rattle.traces.proofs.bytes_on as bytes-on
+use Rattle.traces.proofs.bytes_on.Reads as bytes-on-reads
 
--- an answer is one exactly where the paper's is
-answers : (a b : Answer) (p : PaperAnswer) → paper a ≡ p → (a ≡ b) ↔ (p ≡ paper b)
-answers a b p e = (λ z. sym e ∙ ap paper z, λ z. answer-one a b (e ∙ z))
+-- which record of which set is asked for, and how its files are read
+pub record Record : Type 0 where
+  pub how : Reading
+  pub receivers : List ℕ
+  pub shots : List ℕ
+  pub relations : List ℕ
+  pub tape : List ℕ
+  pub number : ℕ
 
-module _ (how : Reading) (r s x : List ℕ) where
+abbrev asked : Reading → List ℕ → List ℕ → List ℕ → List ℕ → ℕ → Record
+asked how r s x t n = record { how = how; receivers = r; shots = s; relations = x; tape = t; number = n }
+
+asks : (how : Reading) (r s x : List ℕ) → Meets (sheetOf how r) (sheetOf how s) (sheetOf how x) → Askable (sheetOf how x)
+asks how r s x ok = rw (sheet-is how x) (askable (sheetOf how r) (sheetOf how s) x (rw (sheet-is how x) at ok))
+
+-- "In an accepted set each tape, record and channel covered by a relation line leads to one receiver line and one component, those of the
+-- line's arithmetic. .. what is not covered is answered "no trace"."
+pub traced : (κs : Lfts 4) (a : ArgsD trace.signature κs) (v : ResD trace.signature κs) (w : AtExit trace.ended κs) → trace-reads.Post κs a v w
+    → Traced (sheetOf onDisc (now (a .0))) (sheetOf onDisc (now (a .1 .0))) (sheetOf onDisc (now (a .1 .1 .0)))
+    (now (a .1 .1 .1 .0)) (a .1 .1 .1 .1 .0) (a .1 .1 .1 .1 .1 .0) v
+traced κs a v w p =
+    told.traced _ _ _ (asks onDisc (now (a .0)) (now (a .1 .0)) (now (a .1 .1 .0))) (now (a .1 .1 .1 .0)) (a .1 .1 .1 .1 .0) (a .1 .1 .1 .1 .1 .0) v p
+
+pub traced-on : (κs : Lfts 4) (a : ArgsD trace-on.signature κs) (v : ResD trace-on.signature κs) (w : AtExit trace-on.ended κs)
+    → trace-on-reads.Post κs a v w
+    → Traced (sheetOf (a .0 .how) (now (a .1 .0))) (sheetOf (a .0 .how) (now (a .1 .1 .0))) (sheetOf (a .0 .how) (now (a .1 .1 .1 .0)))
+    (now (a .1 .1 .1 .1 .0)) (a .0 .«record») (a .1 .1 .1 .1 .1 .0) v
+traced-on κs a v w p =
+    told.traced _ _ _ (asks (a .0 .how) (now (a .1 .0)) (now (a .1 .1 .0)) (now (a .1 .1 .1 .0))) (now (a .1 .1 .1 .1 .0)) (a .0 .«record»)
+    (a .1 .1 .1 .1 .1 .0) v p
+
+pub came-back : (κs : Lfts 4) (a : ArgsD channel.signature κs) (v : ResD channel.signature κs) (w : AtExit channel.ended κs)
+    → channel-reads.Post κs a v w
+    → Returned (sheetOf onDisc (now (a .0))) (sheetOf onDisc (now (a .1 .0))) (sheetOf onDisc (now (a .1 .1 .0)))
+    (now (a .1 .1 .1 .0)) (a .1 .1 .1 .1 .0) (a .1 .1 .1 .1 .1 .0) (a .1 .1 .1 .1 .1 .1 .0) v
+came-back κs a v w p =
+    told.came-back _ _ _ (asks onDisc (now (a .0)) (now (a .1 .0)) (now (a .1 .1 .0))) (now (a .1 .1 .1 .0)) (a .1 .1 .1 .1 .0)
+    (a .1 .1 .1 .1 .1 .0) (a .1 .1 .1 .1 .1 .1 .0) v p
+
+pub came-back-on : (κs : Lfts 4) (a : ArgsD channel-on.signature κs) (v : ResD channel-on.signature κs) (w : AtExit channel-on.ended κs)
+    → channel-on-reads.Post κs a v w
+    → Returned (sheetOf (a .0 .how) (now (a .1 .0))) (sheetOf (a .0 .how) (now (a .1 .1 .0))) (sheetOf (a .0 .how) (now (a .1 .1 .1 .0)))
+    (now (a .1 .1 .1 .1 .0)) (a .0 .«record») (a .1 .1 .1 .1 .1 .0) (a .1 .1 .1 .1 .1 .1 .0) v
+came-back-on κs a v w p =
+    told.came-back _ _ _ (asks (a .0 .how) (now (a .1 .0)) (now (a .1 .1 .0)) (now (a .1 .1 .1 .0))) (now (a .1 .1 .1 .1 .0)) (a .0 .«record»)
+    (a .1 .1 .1 .1 .1 .0) (a .1 .1 .1 .1 .1 .1 .0) v p
+
+-- a lookup of channel c of a record has that answer
+abbrev lookupOf : Record → ℕ → PaperAnswer
+lookupOf q c = lookupOn (q .how) (q .receivers) (q .shots) (q .relations) (q .tape) (q .number) c
+
+pub data LookedUp (q : Record) (c : ℕ) (v : Answer) : Type 0 where
+  by-trace : (κs : Lfts 4) (a : ArgsD trace.signature κs) (w : AtExit trace.ended κs) → trace-reads.Post κs a v w
+      → asked onDisc (now (a .0)) (now (a .1 .0)) (now (a .1 .1 .0)) (now (a .1 .1 .1 .0)) (a .1 .1 .1 .1 .0) ≡ q → a .1 .1 .1 .1 .1 .0 ≡ c
+      → LookedUp q c v
+  by-trace-on : (κs : Lfts 4) (a : ArgsD trace-on.signature κs) (w : AtExit trace-on.ended κs) → trace-on-reads.Post κs a v w
+      → asked (a .0 .how) (now (a .1 .0)) (now (a .1 .1 .0)) (now (a .1 .1 .1 .0)) (now (a .1 .1 .1 .1 .0)) (a .0 .«record») ≡ q
+      → a .1 .1 .1 .1 .1 .0 ≡ c → LookedUp q c v
+
+moved : (o q : Record) (i c : ℕ) (v : Answer) → paper v ≡ lookupOf o i → o ≡ q → i ≡ c → paper v ≡ lookupOf q c
+moved o q i c v p e f = subst (λ (n : ℕ). paper v ≡ lookupOf q n) f (subst (λ (u : Record). paper v ≡ lookupOf u i) e p)
+
+looked-up : (q : Record) (c : ℕ) (v : Answer) → LookedUp q c v → paper v ≡ lookupOf q c
+looked-up q c v (by-trace κs a w p e f) = moved _ q _ c v p e f
+looked-up q c v (by-trace-on κs a w p e f) = moved _ q _ c v p e f
+
+-- the way back from R line j and component m of a record has that answer
+abbrev backOf : Record → ℕ → ℕ → PaperAnswer
+backOf q j m = wayBackOn (q .how) (q .receivers) (q .shots) (q .relations) (q .tape) (q .number) j m
+
+pub data AskedBack (q : Record) (j m : ℕ) (v : Answer) : Type 0 where
+  by-channel : (κs : Lfts 4) (a : ArgsD channel.signature κs) (w : AtExit channel.ended κs) → channel-reads.Post κs a v w
+      → asked onDisc (now (a .0)) (now (a .1 .0)) (now (a .1 .1 .0)) (now (a .1 .1 .1 .0)) (a .1 .1 .1 .1 .0) ≡ q → a .1 .1 .1 .1 .1 .0 ≡ j
+      → a .1 .1 .1 .1 .1 .1 .0 ≡ m → AskedBack q j m v
+  by-channel-on : (κs : Lfts 4) (a : ArgsD channel-on.signature κs) (w : AtExit channel-on.ended κs) → channel-on-reads.Post κs a v w
+      → asked (a .0 .how) (now (a .1 .0)) (now (a .1 .1 .0)) (now (a .1 .1 .1 .0)) (now (a .1 .1 .1 .1 .0)) (a .0 .«record») ≡ q
+      → a .1 .1 .1 .1 .1 .0 ≡ j → a .1 .1 .1 .1 .1 .1 .0 ≡ m → AskedBack q j m v
+
+moved-back : (o q : Record) (i j l m : ℕ) (v : Answer) → paper v ≡ backOf o i l → o ≡ q → i ≡ j → l ≡ m → paper v ≡ backOf q j m
+moved-back o q i j l m v p e f g =
+    subst (λ (n : ℕ). paper v ≡ backOf q j n) g (subst (λ (n : ℕ). paper v ≡ backOf q n l) f (subst (λ (u : Record). paper v ≡ backOf u i l) e p))
+
+asked-back : (q : Record) (j m : ℕ) (v : Answer) → AskedBack q j m v → paper v ≡ backOf q j m
+asked-back q j m v (by-channel κs a w p e f g) = moved-back _ q _ j _ m v p e f g
+asked-back q j m v (by-channel-on κs a w p e f g) = moved-back _ q _ j _ m v p e f g
+
+module _ (q : Record) where
   abbrev R : Sheet
-  R = sheetOf how r
+  R = sheetOf (q .how) (q .receivers)
 
   abbrev S : Sheet
-  S = sheetOf how s
+  S = sheetOf (q .how) (q .shots)
 
   abbrev X : Sheet
-  X = sheetOf how x
+  X = sheetOf (q .how) (q .relations)
 
-  asks : Meets R S X → Askable X
-  asks ok = rw (sheet-is how x) (askable R S x (rw (sheet-is how x) at ok))
+  able : Meets R S X → Askable X
+  able = asks (q .how) (q .receivers) (q .shots) (q .relations)
 
-  pub leads : Meets R S X → (k c : ℕ) → k < X .count → Data X k → Carries (reachAt X k) c
-      → (a : Answer) → paper a ≡ lookupOn how r s x (reachAt X k .tape) (reachAt X k .number) c
-      → (j : ℕ) × (j < R .count) × Receiver R (reachAt X k) (leadsTo (reachAt X k) c) j × (a ≡ Trace (j + 1) (component (reachAt X k) c))
-  leads ok k c h z f a e =
-      let w = lookup-leads R S X ok (asks ok) k c h z f in
-      (w .0, w .1, w .2, answer-one a (Trace (w .0 + 1) (component (reachAt X k) c)) (e ∙ w .3))
+  -- "Within a tape and record two channels never share them."
+  pub never-shared : (c d l m : ℕ) → LookedUp q c (Trace l m) → LookedUp q d (Trace l m) → c ≡ d
+  never-shared c d l m a b =
+      told.never-shared R S X able (q .tape) (q .number) c d l m _ _ (looked-up q c _ a) (looked-up q d _ b) refl refl
 
-  module _ (t : List ℕ) (n : ℕ) where
-    pub never-shared : (c d l m : ℕ) (a b : Answer) → paper a ≡ lookupOn how r s x t n c → paper b ≡ lookupOn how r s x t n d
-        → a ≡ Trace l m → b ≡ Trace l m → c ≡ d
-    never-shared c d l m a b e f y z = lookup-once R S X t n c d l m (sym e ∙ ap paper y) (sym f ∙ ap paper z)
+  -- "Asked from the receiver and component the answer is that channel", and the other way round.
+  pub there-and-back : (c l m : ℕ) (v u : Answer) → LookedUp q c v → AskedBack q l m u → (v ≡ Trace l m) ↔ (u ≡ Channel c)
+  there-and-back c l m v u a b =
+      told.forth-and-back R S X able (q .tape) (q .number) c l m v u (looked-up q c v a) (asked-back q l m u b)
 
-    pub there-and-back : (c l m : ℕ) (a b : Answer) → paper a ≡ lookupOn how r s x t n c → paper b ≡ wayBackOn how r s x t n l m
-        → (a ≡ Trace l m) ↔ (b ≡ Channel c)
-    there-and-back c l m a b e f =
-        let w = forth-and-back R S X t n c l m in
-        let u = answers a (Trace l m) _ e in
-        let v = answers b (Channel c) _ f in
-        (λ y. v .1 (w .0 (u .0 y)), λ y. u .1 (w .1 (v .0 y)))
+-- "Place c-1 takes channel c's R line and component, or 0 and 0 when channel c is not covered, up to the highest covered channel, which is
+-- returned. Later places stay. An absent record returns 0 and writes nothing. All refusals write nothing."
+pub tabled : (κs : Lfts 6) (a : ArgsD spread-table.signature κs) (v : ResD spread-table.signature κs) (w : AtExit spread-table.ended κs)
+    → spread-table-reads.Post κs a v w
+    → Tabled (λ l. l) (sheetOf onDisc (now (a .0))) (sheetOf onDisc (now (a .1 .0))) (sheetOf onDisc (now (a .1 .1 .0))) (now (a .1 .1 .1 .0))
+    (a .1 .1 .1 .1 .0) (now (a .1 .1 .1 .1 .1 .0)) (now (a .1 .1 .1 .1 .1 .1 .0)) v (now (w .1 .1 .1 .1 .1 .0)) (now (w .1 .1 .1 .1 .1 .1 .0))
+tabled κs a v w p = told.numbers-tabled _ v _ _ p
 
-    pub no-trace : (c : ℕ) (a : Answer) → paper a ≡ lookupOn how r s x t n c
-        → (a ≡ NoTrace)
-        ↔ ((Asked (X .layout) t n × AskedChannel (X .layout) c)
-        × (Meets R S X × ((k : ℕ) → k < X .count → Of X t n k → Carries (reachAt X k) c → ⊥)))
-    no-trace c a e = Iff·trans (answers a NoTrace _ e) (lookup-none R S X t n c)
+pub tabled-on : (κs : Lfts 6) (a : ArgsD spread-on.signature κs) (v : ResD spread-on.signature κs) (w : AtExit spread-on.ended κs)
+    → spread-on-reads.Post κs a v w
+    → Tabled (λ l. l) (sheetOf (a .0 .how) (now (a .1 .0))) (sheetOf (a .0 .how) (now (a .1 .1 .0))) (sheetOf (a .0 .how) (now (a .1 .1 .1 .0)))
+    (now (a .1 .1 .1 .1 .0)) (a .0 .«record») (now (a .1 .1 .1 .1 .1 .0)) (now (a .1 .1 .1 .1 .1 .1 .0)) v
+    (now (w .1 .1 .1 .1 .1 .0)) (now (w .1 .1 .1 .1 .1 .1 .0))
+tabled-on κs a v w p = told.numbers-tabled _ v _ _ p
 
-    pub no-way-back : (j m : ℕ) (a : Answer) → paper a ≡ wayBackOn how r s x t n j m
-        → (a ≡ NoTrace)
-        ↔ ((Asked (X .layout) t n × AskedLine j m)
-        × (Meets R S X × (Stands R j → (k : ℕ) → k < X .count → Of X t n k → Leads (pointAt R (j - 1)) m (reachAt X k) → ⊥)))
-    no-way-back j m a e = Iff·trans (answers a NoTrace _ e) (back-none R S X t n j m)
+pub bytes-tabled : (κs : Lfts 6) (a : ArgsD spread-bytes.signature κs) (v : ResD spread-bytes.signature κs) (w : AtExit spread-bytes.ended κs)
+    → spread-bytes-reads.Post κs a v w
+    → Tabled numbersOf (sheetOf onDisc (now (a .0))) (sheetOf onDisc (now (a .1 .0))) (sheetOf onDisc (now (a .1 .1 .0))) (now (a .1 .1 .1 .0))
+    (a .1 .1 .1 .1 .0) (now (a .1 .1 .1 .1 .1 .0)) (now (a .1 .1 .1 .1 .1 .1 .0)) v (now (w .1 .1 .1 .1 .1 .0)) (now (w .1 .1 .1 .1 .1 .1 .0))
+bytes-tabled κs a v w p = told.bytes-tabled _ v _ _ p
 
-    -- either slice: `part` is its part of an answer
-    pub agrees : (part : PaperAnswer → ℕ) (p q : ℕ) (d : List ℕ) → spreadVerdict R S X t n p q ≡ fine
-        → (c : ℕ) (a : Answer) → paper a ≡ lookupOn how r s x t n (c + 1) → highestOf X t n ≤ length d → c < highestOf X t n
-        → getD (slice place part R S X t n p q d) c 0 ≡ part (paper a)
-    agrees part p q d ok c a e l h = slice-agrees R S X t n p q ok part d c l h ∙ ap part (sym e)
+pub bytes-tabled-on : (κs : Lfts 6) (a : ArgsD bytes-on.signature κs) (v : ResD bytes-on.signature κs) (w : AtExit bytes-on.ended κs)
+    → bytes-on-reads.Post κs a v w
+    → Tabled numbersOf (sheetOf (a .0 .how) (now (a .1 .0))) (sheetOf (a .0 .how) (now (a .1 .1 .0))) (sheetOf (a .0 .how) (now (a .1 .1 .1 .0)))
+    (now (a .1 .1 .1 .1 .0)) (a .0 .«record») (now (a .1 .1 .1 .1 .1 .0)) (now (a .1 .1 .1 .1 .1 .1 .0)) v
+    (now (w .1 .1 .1 .1 .1 .0)) (now (w .1 .1 .1 .1 .1 .1 .0))
+bytes-tabled-on κs a v w p = told.bytes-tabled _ v _ _ p
 
-    -- the byte form, read as numbers
-    pub bytes-agree : (q : ℕ) (d : List ℕ) → spreadVerdict R S X t n (length d / 2) q ≡ fine
-        → (c : ℕ) (a : Answer) → paper a ≡ lookupOn how r s x t n (c + 1) → c < highestOf X t n
-        → getD (numbersOf (slice bytePlace lineOf R S X t n (length d / 2) q d)) c 0 ≡ lineOf (paper a)
-    bytes-agree q d ok c a e h =
-        let l = numbers-length d in
-        let m = spread-fine R S X t n (length d / 2) q .0 ok .1 .1 .0 in
-        ap (λ (k : List ℕ). getD k c 0) (slice-numbers R S X t n (length d / 2) q lineOf d refl)
-        ∙ agrees lineOf (length d / 2) q (numbersOf d) ok c a e (omega arith) h
+-- "bytes at its end too few for a number are no place and stay"
+pub odd-stays-put : (κs : Lfts 6) (a : ArgsD spread-bytes.signature κs) (v : ResD spread-bytes.signature κs) (w : AtExit spread-bytes.ended κs)
+    → spread-bytes-reads.Post κs a v w → (c : ℕ) → 2 * (length (now (a .1 .1 .1 .1 .1 .0)) / 2) ≤ c
+    → getD (now (w .1 .1 .1 .1 .1 .0)) c 0 ≡ getD (now (a .1 .1 .1 .1 .1 .0)) c 0
+odd-stays-put κs a v w p = told.odd-byte _ _ _ _ p
+
+pub odd-stays-put-on : (κs : Lfts 6) (a : ArgsD bytes-on.signature κs) (v : ResD bytes-on.signature κs) (w : AtExit bytes-on.ended κs)
+    → bytes-on-reads.Post κs a v w → (c : ℕ) → 2 * (length (now (a .1 .1 .1 .1 .1 .0)) / 2) ≤ c
+    → getD (now (w .1 .1 .1 .1 .1 .0)) c 0 ≡ getD (now (a .1 .1 .1 .1 .1 .0)) c 0
+odd-stays-put-on κs a v w p = told.odd-byte _ _ _ _ p
+
+-- the table and the lookup agree: where the one says h, the place of each channel up to h has the line and component that the other answers
+pub agrees : (read : List ℕ → List ℕ) (q : Record) (d e d′ e′ : List ℕ) (h : ℕ)
+    → Tabled read (R q) (S q) (X q) (q .tape) (q .number) d e (Highest h) d′ e′ → (c : ℕ) → c < h → (v : Answer) → LookedUp q (c + 1) v
+    → (getD (read d′) c 0 ≡ lineOf (paper v)) × (getD e′ c 0 ≡ componentOf (paper v))
+agrees read q d e d′ e′ h t c l v a =
+    let f = t .filled h refl in
+    let p = sym (looked-up q (c + 1) v a) in
+    (f .0 .places c l ∙ ap lineOf p, f .1 .places c l ∙ ap componentOf p)

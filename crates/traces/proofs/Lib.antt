@@ -4,4 +4,5 @@ pub mod Sets
 pub mod Ways
 pub mod Tables
 pub mod One
+pub mod Told
 pub mod Demands

@@ -21,10 +21,12 @@ use Rattle.rules.specs.Lookup.{found}
 use Rattle.rules.proofs.Steps.{need-met, need-broken, before-met, before-broken}
 use Rattle.rules.proofs.Least.{least-below}
 use Rattle.rules.proofs.Breach.{run-met}
-use Rattle.rules.proofs.Form.{data-is, form-is}
+use Rattle.rules.proofs.Meets.{form-is}
+use Rattle.rules.proofs.Form.{data-is}
 use Rattle.rules.proofs.Meets.{verdict-meets}
 use Rattle.rules.proofs.Search.{search-is}
-use Rattle.rules.proofs.Cover.{Reached, reached, carries-is}
+use Rattle.rules.specs.MeetsCover.{Reached}
+use Rattle.rules.proofs.Cover.{reached, carries-is}
 use Rattle.lines.specs.Reading.{sheetOf}
 use Rattle.lines.specs.declared.Reading.{Reading}
 use Rattle.lines.proofs.Sheets.{layout-is}

@@ -1,3 +1,4 @@
 pub mod Paper
 pub mod Steps
 pub mod Calls
+pub mod Said
