@@ -1,5 +1,4 @@
 -- What a host finds in the slice of counts afterwards.
---   valueOf bs, readAt i o  = the number of some bytes, low byte first; of place i
 --   length-stays            = the slice is as long as before
 --   count-at                = place i of an accepted set is its count i, where the slice has that place whole
 --   beyond-stays            = every byte from a place on that is not written is as before
@@ -19,17 +18,13 @@ use Rattle.rules.specs.Disc.{disc, file}
 use Rattle.rules.specs.Layout.{sps93}
 use Rattle.rules.specs.Lines.{isData, isPoint}
 use Rattle.rules.specs.Check.{Answer, accepted, refusal, trace, channel, highest, noTrace, check}
-use Rattle.rules.proofs.Counts.{accepted-is, which, which-length}
+use Rattle.rules.specs.MeetsForm.{Data, Point}
+use Rattle.rules.proofs.Form.{data-is, point-is}
+use Rattle.rules.proofs.Counts.{how-many, how-much, accepted-is}
 use Rattle.rules.proofs.Hosts.{Sized, check-sized}
 use Rattle.sps.specs.Counts.{lowBytes, placed, counted}
+use Rattle.sps.specs.Said.{valueOf, readAt}
 use Rattle.sps.proofs.Placed.{or-less, low-length, placed-whole, placed-short, placed-none, placed-length}
-
-abbrev pub valueOf : List ℕ → ℕ
-valueOf [] = 0
-valueOf (b ∷ bs) = b + 256 * valueOf bs
-
-abbrev pub readAt : ℕ → List ℕ → ℕ
-readAt i o = valueOf (take 8 (drop (8 * i) o))
 
 -- 258 receivers in a slice of nine bytes, by computation
 nine-bytes : counted (accepted 258 1 1 3) (replicate 9 170) ≡ 2 ∷ 1 ∷ 0 ∷ 0 ∷ 0 ∷ 0 ∷ 0 ∷ 0 ∷ 170 ∷ []
@@ -96,11 +91,8 @@ count-few (suc n) p =
     let j = one-few (p n) in
     omega arith
 
-which-few : (n c : ℕ) (p : ℕ → Bool) → n ≤ 9999 → length (which n p) ≡ c → c < 256 ^ 8
-which-few n c p h e =
-    let f = count-few n p in
-    let g = which-length n p in
-    omega arith
+fits : (n c : ℕ) (p : ℕ → Bool) → n ≤ 9999 → count n p ≡ c → c < 256 ^ 8
+fits n c p h e = let f = count-few n p in omega arith
 
 each : (n m k t : ℕ) → n < 256 ^ 8 → m < 256 ^ 8 → k < 256 ^ 8 → t < 256 ^ 8 → (i : ℕ) → getD (n ∷ m ∷ k ∷ t ∷ []) i 0 < 256 ^ 8
 each n m k t a b c d zero = a
@@ -117,8 +109,10 @@ module _ (r s x : List ℕ) where
       let ok = w .0 in
       let c = w .1 in
       let few : t < 2 ^ 40 = subst Sized q (check-sized r s x) in
-      each n m k t (which-few _ n (isPoint (file r)) (ok .formR .rule2) (c .receivers)) (which-few _ m (isPoint (file s)) (ok .formS .rule2) (c .shots))
-      (which-few _ k (isData (file x)) (ok .formX .rule2) (c .relations)) (omega arith)
+      let a = how-many (file r) (isPoint (file r)) (Point (file r)) (point-is (file r)) n .0 (c .receivers) in
+      let b = how-many (file s) (isPoint (file s)) (Point (file s)) (point-is (file s)) m .0 (c .shots) in
+      let d = how-much (file x) (isData (file x)) (Data (file x)) (data-is (file x)) _ k t .0 (c .relations) .0 in
+      each n m k t (fits _ n _ (ok .formR .rule2) a) (fits _ m _ (ok .formS .rule2) b) (fits _ k _ (ok .formX .rule2) d) (omega arith)
 
   -- o stands in the slice before the call, and e afterwards
   module _ (o e : List ℕ) (w : e ≡ counted (check (file r) (file s) (file x)) o) where

@@ -1,4 +1,5 @@
 pub mod Placed
 pub mod Counts
 pub mod One
+pub mod Told
 pub mod Demands

@@ -5,8 +5,12 @@
 --   TellsSet n a         = n is the number of an answer to the set check
 --   Tells n a            = n is the number of an answer to a question
 --   TellsSpread n a      = n is the number of an answer of the spread table
-use Prim.Native.Nat.{ℕ, _/_, _%_, _^_, _≤_, _<_}
+--   valueOf bs, readAt i o = the number of some bytes, low byte first; of place i, of eight bytes
+--   CountsTold v o e     = what stands in the slice of counts, o before and e after the call that answers v
+use Prim.Native.Nat.{ℕ, _+_, _*_, _/_, _%_, _^_, _≤_, _<_}
 use mathlib.Core.Path.{_≡_}
+use mathlib.Core.List.{List, [], _∷_}
+use lib.ListN.{length, getD, take, drop}
 use Rattle.sets.specs.declared.Answer.{Answer as SetAnswer}
 use Rattle.sets.specs.declared.Answer.the-variants.{Accepted, Refused as SetRefused}
 use Rattle.traces.specs.declared.Answer.{Answer}
@@ -31,3 +35,18 @@ Tells n (Refused i f l c) = RefusedAs n i f l c
 abbrev pub TellsSpread : ℕ → Spread → Type 0
 TellsSpread n (Highest h) = (n < 2 ^ 40) × (n ≡ h)
 TellsSpread n (Denied i f l c) = RefusedAs n i f l c
+
+abbrev pub valueOf : List ℕ → ℕ
+valueOf [] = 0
+valueOf (b ∷ bs) = b + 256 * valueOf bs
+
+abbrev pub readAt : ℕ → List ℕ → ℕ
+readAt i o = valueOf (take 8 (drop (8 * i) o))
+
+pub record CountsTold (v : SetAnswer) (o e : List ℕ) : Type 0 where
+  pub size : length e ≡ length o
+  -- the receivers, shots, relation lines and traces, in the places that the slice has whole
+  pub written : (a b c t : ℕ) → v ≡ Accepted a b c t → (i : ℕ) → i < 4 → 8 * i + 8 ≤ length o → readAt i e ≡ getD (a ∷ b ∷ c ∷ t ∷ []) i 0
+  -- "bytes at its end too few for a number are no place and stay", and so does all after the fourth
+  pub others : (i : ℕ) → (i < 4 → length o < 8 * i + 8) → drop (8 * i) e ≡ drop (8 * i) o
+  pub unwritten : (i f l c : ℕ) → v ≡ SetRefused i f l c → e ≡ o
