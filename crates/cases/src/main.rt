@@ -70,7 +70,7 @@ fn each(names: &[u8]) {
 
 fn main() {
     let mut names = io::buffer();
-    if let Input::Bytes(n) = files::load(b"names", &mut names) {
+    if let Input::Bytes(n) = files::load(b"names", &mut names).input() {
         each(&names[..n]);
     }
 }

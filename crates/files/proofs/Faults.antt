@@ -5,8 +5,8 @@ use Prim.Native.Nat.{ℕ}
 use Rattle.rules.specs.Plan.{fileR, fileS, fileX}
 use Rattle.rules.specs.Text.{bytes}
 use Rattle.words.specs.Words.{noFile, tooLong}
-use Rattle.files.specs.declared.Input.{Input}
-use Rattle.files.specs.declared.Input.the-variants.{Missing, Longer, Bytes}
+use Rattle.files.specs.declared.input.Input.{Input}
+use Rattle.files.specs.declared.input.Input.the-variants.{Missing, Longer, Bytes}
 use Rattle.files.specs.Report.{fault, _orElse_, report}
 
 module _ (r s x : List ℕ) (j k : Input) (n m : ℕ) where

@@ -1,3 +1,6 @@
+pub mod Answers
+pub mod Kept
+pub mod Paths
 pub mod Says
 pub mod Faults
 pub mod One

@@ -1,57 +1,31 @@
 // The files of a set: each is read into a lent buffer, and one line says what they are. Of what is read or printed no
-// contract can speak; so `report` says all of it on slices, `tell` only reads and hands over to it, and `print` only prints.
+// contract can speak; so `input` decides on what the calls of read answer, `report` says all of the line on slices, `tell` only
+// reads and hands over to it, and `print` only prints.
 ghost use mathlib.Core.Path.{_≡_};
 ghost use Prim.Native.Nat.{_≤_};
 ghost use lib.ListN.{length, take};
 ghost use Rattle.words.specs.Buffer.{over};
-ghost use Rattle.files.specs.Report.{sizeOf, part as partOf, fault as faultOf, report as reportOf, Told};
+ghost use Rattle.files.specs.Reads.{Found};
+ghost use Rattle.files.specs.Report.{part as partOf, fault as faultOf, report as reportOf, told};
 
-// What was found of a file: it cannot be opened or read; it is longer than its buffer; or so many bytes of the buffer are its own.
-pub enum Input {
-    Missing,
-    Longer,
-    Bytes(usize),
+mod input;
+
+pub use input::Input;
+pub use input::Loaded;
+pub use input::load;
+
+// What was said of three files: the length of their line, and what was found of each.
+pub struct Said {
+    pub size: usize,
+    pub r: Loaded,
+    pub s: Loaded,
+    pub x: Loaded,
 }
 
-// Reads an open file to its end.
-fn read(fd: i32, buf: &mut [u8]) -> Input
-    ensures fits { λ i. ⌜ sizeOf i ≤ length (now (buf .entry)) ⌝ }
-{
-    let mut n = 0;
-    while n < buf.len() {
-        let got = libc::read(fd, &mut buf[n..]);
-        if got < 0 {
-            return Input::Missing;
-        }
-        let m = io::count(got, &buf[n..]);
-        if m == 0 {
-            return Input::Bytes(n);
-        }
-        n += m;
-    }
-    // The buffer is full: whether the file goes on, a byte more tells.
-    let mut one = [0u8; 1];
-    let more = libc::read(fd, &mut one);
-    if more < 0 {
-        return Input::Missing;
-    }
-    if more == 0 {
-        return Input::Bytes(n);
-    }
-    Input::Longer
-}
-
-// Reads the file at a path.
-pub fn load(path: &[u8], buf: &mut [u8]) -> Input
-    ensures fits { λ i. ⌜ sizeOf i ≤ length (now (buf .entry)) ⌝ }
-{
-    let fd = os::open_read(path);
-    if fd < 0 {
-        return Input::Missing;
-    }
-    let i = read(fd, buf);
-    libc::close(fd);
-    i
+// What was said of three files, and whether all of it was written.
+pub struct Printed {
+    pub said: Said,
+    pub whole: bool,
 }
 
 // The first n bytes of a buffer; all where it has fewer.
@@ -118,19 +92,35 @@ pub fn tell(
     b: &mut [u8],
     c: &mut [u8],
     out: &mut [u8],
-) -> usize
-    ensures told { λ n. ⌜ Told (now (a .exit)) (now (b .exit)) (now (c .exit)) (now (out .entry)) (now (out .exit)) n ⌝ }
-    ensures small { λ n. ⌜ n ≤ 93 ⌝ }
+) -> Said
+    ensures r_found { λ t. ⌜ Found (now (r .entry)) (t .r) (now (a .entry)) (now (a .exit)) ⌝ }
+    ensures s_found { λ t. ⌜ Found (now (s .entry)) (t .s) (now (b .entry)) (now (b .exit)) ⌝ }
+    ensures x_found { λ t. ⌜ Found (now (x .entry)) (t .x) (now (c .entry)) (now (c .exit)) ⌝ }
+    ensures value { λ t. ⌜ t .size ≡ length (told t (now (a .exit)) (now (b .exit)) (now (c .exit))) ⌝ }
+    ensures written { λ t. ⌜ now (out .exit) ≡ over (told t (now (a .exit)) (now (b .exit)) (now (c .exit))) (now (out .entry)) ⌝ }
+    ensures small { λ t. ⌜ t .size ≤ 93 ⌝ }
 {
     let i = load(r, a);
     let j = load(s, b);
     let k = load(x, c);
-    report(i, a, j, b, k, c, out)
+    let size = report(i.input(), a, j.input(), b, k.input(), c, out);
+    Said {
+        size,
+        r: i,
+        s: j,
+        x: k,
+    }
 }
 
 // Prints the line of the files at three paths, read into lent buffers.
-pub fn print(r: &[u8], s: &[u8], x: &[u8], a: &mut [u8], b: &mut [u8], c: &mut [u8]) {
+pub fn print(r: &[u8], s: &[u8], x: &[u8], a: &mut [u8], b: &mut [u8], c: &mut [u8]) -> Printed
+    ensures r_found { λ p. ⌜ Found (now (r .entry)) (p .said .r) (now (a .entry)) (now (a .exit)) ⌝ }
+    ensures s_found { λ p. ⌜ Found (now (s .entry)) (p .said .s) (now (b .entry)) (now (b .exit)) ⌝ }
+    ensures x_found { λ p. ⌜ Found (now (x .entry)) (p .said .x) (now (c .entry)) (now (c .exit)) ⌝ }
+{
     let mut line = [0u8; 96];
-    let n = tell(r, s, x, a, b, c, &mut line);
-    io::write_all(libc::STDOUT_FILENO, &line[..n]);
+    let said = tell(r, s, x, a, b, c, &mut line);
+    let n = said.size;
+    let whole = io::write_all(libc::STDOUT_FILENO, &line[..n]);
+    Printed { said, whole }
 }

@@ -1,8 +1,8 @@
 -- `files::print` meets its contract. Assumes nothing.
-use borrow.Author.Needs.{needs}
-use lib.Seq.{length-take-le}
 use mathlib.Core.Path.{sym}
 use native.Mathlib.Omega.{arith}
+use lib.Seq.{length-take-le}
+use borrow.Author.Needs.{needs}
 use Rattle.files.proofs.print.Statement.{statement}
 use Rattle.files.proofs.print.Tie as tie
 
@@ -18,7 +18,7 @@ array-share-prefix-line c = search needs
 slice-aggregate-write-all : tie.Need-slice-aggregate-write-all
 slice-aggregate-write-all c =
     let t = c .before .before .before .before .before .before .before .before .tell in
-    sym (length-take-le (t .result) (t .last .1 .1 .1 .1 .1 .1 .0) (omega (arith, t .ensures .1, t .kept .1 .1 .1 .1 .1 .1 .0)))
+    sym (length-take-le (t .result .size) (t .last .1 .1 .1 .1 .1 .1 .0) (omega (arith, t .ensures .1 .1 .1 .1 .1, t .kept .1 .1 .1 .1 .1 .1 .0)))
 
 write-all-requires : tie.Need-write-all-requires
 write-all-requires c κs = search needs
@@ -33,7 +33,9 @@ same-length-3 : tie.Need-same-length-3
 same-length-3 c = search needs
 
 returns : tie.Need-returns
-returns c = search needs
+returns c =
+    let e = c .before .before .before .before .before .before .before .before .before .tell .ensures in
+    (e .0, (e .1 .0, e .1 .1 .0))
 
 pub print-spec : {M : Type 1} → statement M
 print-spec =

@@ -26,7 +26,9 @@ same-length-2 c = search needs
 returns-2 : tie.Need-returns-2
 unfolding report
 returns-2 c =
-    let e = says-next _ (says (c .before .before .before .before .before .before .before .before .fault .ensures)) (c .before .before .before .before .before .if1 .left) (says-first _ _ (says (c .before .before .before .fault2 .ensures)) (c .if2 .taken)) in
+    let a = c .before .before .before .before .before in
+    let last = says-first _ _ (says (c .before .before .before .fault2 .ensures)) (c .if2 .taken) in
+    let e = says-next _ (says (a .before .before .before .fault .ensures)) (a .if1 .left) last in
     (e .value, (e .written, c .before .before .before .fault2 .ensures .1 .1))
 
 fault-requires-3 : tie.Need-fault-requires-3
@@ -38,7 +40,11 @@ same-length-3 c = search needs
 returns-3 : tie.Need-returns-3
 unfolding report
 returns-3 c =
-    let e = says-next _ (says (c .before .before .before .before .before .before .before .before .before .before .before .before .before .fault .ensures)) (c .before .before .before .before .before .before .before .before .before .before .if1 .left) (says-next _ (says (c .before .before .before .before .before .before .before .before .fault2 .ensures)) (c .before .before .before .before .before .if2 .left) (says-first _ _ (says (c .before .before .before .fault3 .ensures)) (c .if3 .taken))) in
+    let b = c .before .before .before .before .before in
+    let a = b .before .before .before .before .before in
+    let last = says-first _ _ (says (c .before .before .before .fault3 .ensures)) (c .if3 .taken) in
+    let later = says-next _ (says (b .before .before .before .fault2 .ensures)) (b .if2 .left) last in
+    let e = says-next _ (says (a .before .before .before .fault .ensures)) (a .if1 .left) later in
     (e .value, (e .written, c .before .before .before .fault3 .ensures .1 .1))
 
 part-requires : tie.Need-part-requires
@@ -63,8 +69,17 @@ returns-4 : tie.Need-returns-4
 unfolding report
 returns-4 c =
     let said = c .before .before .verdict .ensures in
-    let v = says-verdict (c .before .before .before .before .check .result) _ _ _ _ _ _ _ _ _ (c .before .before .before .before .check .ensures) (c .before .before .before .before .before .before .before .part .ensures) (c .before .before .before .before .before .before .part2 .ensures) (c .before .before .before .before .before .part3 .ensures) (says said) in
-    let e = says-next _ (says (c .before .before .before .before .before .before .before .before .before .before .before .before .before .before .before .before .before .before .before .before .before .fault .ensures)) (c .before .before .before .before .before .before .before .before .before .before .before .before .before .before .before .before .before .before .if1 .left) (says-next _ (says (c .before .before .before .before .before .before .before .before .before .before .before .before .before .before .before .before .fault2 .ensures)) (c .before .before .before .before .before .before .before .before .before .before .before .before .before .if2 .left) (says-next _ (says (c .before .before .before .before .before .before .before .before .before .before .before .fault3 .ensures)) (c .before .before .before .before .before .before .before .before .if3 .left) v)) in
+    let k = c .before .before .before .before .check in
+    let p = c .before .before .before .before .before .before .before .part .ensures in
+    let q = c .before .before .before .before .before .before .part2 .ensures in
+    let t = c .before .before .before .before .before .part3 .ensures in
+    let v = says-verdict (k .result) _ _ _ _ _ _ _ _ _ (k .ensures) p q t (says said) in
+    let d = c .before .before .before .before .before .before .before .before in
+    let b = d .before .before .before .before .before in
+    let a = b .before .before .before .before .before in
+    let last = says-next _ (says (d .before .before .before .fault3 .ensures)) (d .if3 .left) v in
+    let later = says-next _ (says (b .before .before .before .fault2 .ensures)) (b .if2 .left) last in
+    let e = says-next _ (says (a .before .before .before .fault .ensures)) (a .if1 .left) later in
     (e .value, (e .written, said .1 .1))
 
 pub report-spec : {M : Type 1} → statement M

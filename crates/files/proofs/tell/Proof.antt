@@ -1,6 +1,5 @@
 -- `files::tell` meets its contract. Assumes nothing.
 use borrow.Author.Needs.{needs}
-use native.Mathlib.Omega.{arith}
 use Rattle.files.proofs.tell.Statement.{statement}
 use Rattle.files.proofs.tell.Tie as tie
 
@@ -12,6 +11,15 @@ load-requires-2 c κs = search needs
 
 load-requires-3 : tie.Need-load-requires-3
 load-requires-3 c κs = search needs
+
+input-requires : tie.Need-input-requires
+input-requires c κs = search needs
+
+input-requires-2 : tie.Need-input-requires-2
+input-requires-2 c κs = search needs
+
+input-requires-3 : tie.Need-input-requires-3
+input-requires-3 c κs = search needs
 
 report-requires : tie.Need-report-requires
 report-requires c κs = search needs
@@ -30,19 +38,25 @@ same-length-4 c = search needs
 
 returns : tie.Need-returns
 returns c =
-    let a = c .before .before .before .before .before .before .before .before .before .before .before .before .before .before .before .before .before .load in
-    let b = c .before .before .before .before .before .before .before .before .before .before .before .before .before .load2 in
-    let d = c .before .before .before .before .before .before .before .before .before .load3 in
+    let d = c .before .before .before .before .before .before .before .before .before .before .before .before in
+    let i = c .before .before .before .before .before .before .before .before .before .input .ensures in
+    let j = c .before .before .before .before .before .before .before .input2 .ensures in
+    let k = c .before .before .before .before .before .input3 .ensures in
     let e = c .before .before .report .ensures in (
-      record {
-        i = a .result;
-        j = b .result;
-        k = d .result;
-        fits = (omega (arith, a .ensures, a .kept .1 .0), (omega (arith, b .ensures, b .kept .1 .0), omega (arith, d .ensures, d .kept .1 .0)));
-        value = e .0;
-        written = e .1 .0;
-      },
-      e .1 .1,
+      d .before .before .before .before .before .before .before .before .load .ensures,
+      (
+        d .before .before .before .before .load2 .ensures,
+        (
+          d .load3 .ensures,
+          (
+            rw (← i, ← j, ← k) (e .0),
+            (
+              rw (← i, ← j, ← k) (e .1 .0),
+              e .1 .1,
+            ),
+          ),
+        ),
+      ),
     )
 
 pub tell-spec : {M : Type 1} → statement M
@@ -52,6 +66,9 @@ tell-spec =
     load-requires
     load-requires-2
     load-requires-3
+    input-requires
+    input-requires-2
+    input-requires-3
     report-requires
     same-length
     same-length-2
