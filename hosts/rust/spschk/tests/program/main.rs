@@ -1,8 +1,10 @@
 //! The program `spschk` in folders, against the naive reader.
 
+mod calls;
 #[allow(dead_code)]
 #[path = "../../../made.rs"]
 mod made;
+mod output;
 mod run;
 
 use run::Folder;
@@ -75,6 +77,21 @@ fn a_buffer_is_filled_to_its_end() {
         assert_eq!(Folder::of(&name(BUFFER + 1), &over).says(), too_long(file));
         let far = sized(file, 3 * BUFFER);
         assert_eq!(Folder::of(&name(3 * BUFFER), &far).says(), too_long(file));
+    }
+}
+
+/// A file that ends anywhere is read to there: empty, within a line, and about where the
+/// program's reads of 4,096 bytes end.
+#[test]
+fn a_file_is_read_to_its_end() {
+    for file in File::ALL {
+        let whole = set_a().file(file).len();
+        let cut = [0, 1, 81, 82, 83, whole - 82, whole - 1].map(|size| set_a().cut(file, size));
+        let long = [4_095, 4_096, 4_097, 8_192].map(|size| sized(file, size));
+        for set in cut.into_iter().chain(long) {
+            let name = format!("ends_{}_{}", file.letter(), set.file(file).len());
+            assert_eq!(Folder::of(&name, &set).says(), spschk::line(&set), "{name}");
+        }
     }
 }
 

@@ -56,11 +56,31 @@ impl Folder {
         folder
     }
 
-    /// What the program prints; it always ends well, with nothing on standard error.
-    pub fn says(&self) -> String {
-        let output = Command::new(program()).current_dir(&self.0).output().expect("a run");
-        assert!(output.status.success(), "{}: {}", self.0.display(), output.status);
-        assert_eq!(output.stderr, b"", "{}", self.0.display());
+    /// The program, to be run in the folder.
+    pub fn command(&self) -> Command {
+        let mut command = Command::new(program());
+        command.current_dir(&self.0);
+        command
+    }
+
+    /// A script, to be run in the folder with the program as its name.
+    pub fn shell(&self, script: &str) -> Command {
+        let mut command = Command::new("sh");
+        command.current_dir(&self.0).arg("-c").arg(script).arg(program());
+        command
+    }
+
+    /// What a run of the program prints; it always ends well, with nothing on standard
+    /// error.
+    pub fn line(command: &mut Command) -> String {
+        let output = command.output().expect("a run");
+        assert!(output.status.success(), "{command:?}: {}", output.status);
+        assert_eq!(output.stderr, b"", "{command:?}");
         String::from_utf8(output.stdout).expect("a line of text")
+    }
+
+    /// What the program prints in the folder.
+    pub fn says(&self) -> String {
+        Folder::line(&mut self.command())
     }
 }
