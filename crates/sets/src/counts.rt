@@ -1,6 +1,7 @@
 // The counts of an accepted set: receivers, shots, relation lines and traces.
 ghost use mathlib.Core.Path.{_≡_};
 ghost use Prim.Native.Nat.{_≤_, _<_};
+ghost use Rattle.rules.specs.Places.{count};
 ghost use Rattle.rules.specs.Sheet.{mostLines};
 ghost use Rattle.rules.specs.Layout.{sps93};
 ghost use Rattle.rules.specs.Relations.{reach};
@@ -8,6 +9,7 @@ ghost use Rattle.rules.specs.Cover.{traces as tracesOf};
 ghost use Rattle.rules.specs.Check.{points as pointsOf, relations as relationsOf, allTraces};
 ghost use Rattle.lines.specs.Reading.{sheetOf};
 ghost use Rattle.form.specs.Known.{Known};
+ghost use Rattle.keys.specs.Keyed.{takesIn};
 ghost use Rattle.sets.specs.Paper.{tracesAt};
 use keys::By;
 use keys::Keyed;
@@ -15,16 +17,12 @@ use lines::Reading;
 use records::fits;
 use records::relation;
 
-// How many receivers or shots a file has.
-pub fn points(how: Reading, f: &[u8]) -> u64
-    requires { ⌜ sheetOf how (now f) .count ≤ mostLines ⌝ }
-    ensures value { λ m. ⌜ m ≡ pointsOf (sheetOf how (now (f .entry))) ⌝ }
+// How many lines of a file have a key of that kind.
+fn keyed(z: Keyed, f: &[u8]) -> u64
+    requires { ⌜ sheetOf (z .how) (now f) .count ≤ mostLines ⌝ }
+    ensures value { λ m. ⌜ m ≡ count (sheetOf (z .how) (now (f .entry)) .count) (takesIn z (now (f .entry))) ⌝ }
 {
-    let z = Keyed {
-        how,
-        by: By::Points,
-    };
-    let n = lines::line_count(how, f);
+    let n = lines::line_count(z.how, f);
     let mut m: u64 = 0;
     let mut k = 0;
     while k < n {
@@ -38,27 +36,32 @@ pub fn points(how: Reading, f: &[u8]) -> u64
     m
 }
 
+// How many receivers or shots a file has.
+pub fn points(how: Reading, f: &[u8]) -> u64
+    requires { ⌜ sheetOf how (now f) .count ≤ mostLines ⌝ }
+    ensures value { λ m. ⌜ m ≡ pointsOf (sheetOf how (now (f .entry))) ⌝ }
+{
+    keyed(
+        Keyed {
+            how,
+            by: By::Points,
+        },
+        f,
+    )
+}
+
 // How many relation lines X has.
 pub fn relations(how: Reading, x: &[u8]) -> u64
     requires { ⌜ sheetOf how (now x) .count ≤ mostLines ⌝ }
     ensures value { λ m. ⌜ m ≡ relationsOf (sheetOf how (now (x .entry))) ⌝ }
 {
-    let z = Keyed {
-        how,
-        by: By::Records,
-    };
-    let n = lines::line_count(how, x);
-    let mut m: u64 = 0;
-    let mut k = 0;
-    while k < n {
-        if keys::takes(z, x, k) {
-            m += 1;
-            k += 1;
-        } else {
-            k += 1;
-        }
-    }
-    m
+    keyed(
+        Keyed {
+            how,
+            by: By::Records,
+        },
+        x,
+    )
 }
 
 // The traces of a relation line; only its channel numbers are read.
