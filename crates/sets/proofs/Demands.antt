@@ -1,5 +1,5 @@
 -- Demands 1 and 2 of the calls `check` and `check_on`, from their contracts.
-use Prim.Native.Nat.{ℕ}
+use Prim.Native.Nat.{ℕ, _<_}
 use native.Mathlib.Omega.{arith}
 use mathlib.Core.Path.{_≡_, sym, ap, subst, _∙_}
 use mathlib.Core.Logic.{_↔_, Iff·trans}
@@ -13,10 +13,14 @@ use Rattle.rules.specs.Plan.{Refusal, Verdict, fine, refused, №}
 use Rattle.rules.specs.Sheet.{Sheet}
 use Rattle.rules.specs.Disc.{file}
 use Rattle.rules.specs.Check.{accepted, refusal, verdict, answer, points, relations, allTraces, check as checkOf}
+use Rattle.rules.specs.Layout.{sps93}
+use Rattle.rules.specs.MeetsForm.{Rule3}
+use Rattle.rules.specs.MeetsDisc.{Clean}
 use Rattle.rules.specs.Meets.{Meets}
 use Rattle.rules.specs.Refuses.{Refuses}
 use Rattle.rules.specs.Listed.{Listed}
 use Rattle.rules.proofs.Meets.{verdict-meets, verdict-refuses}
+use Rattle.rules.proofs.Disc.{takes-is}
 use Rattle.rules.proofs.Counts.{accepted-is}
 use Rattle.rules.proofs.Hosts.{Sized, check-sized}
 use Rattle.lines.specs.Reading.{sheetOf}
@@ -100,6 +104,10 @@ pub demand-2 : (κs : Lfts 3) (a : ArgsD check.signature κs) (v : ResD check.si
     → check-reads.Post κs a v w → Judged (file (now (a .0))) (file (now (a .1 .0))) (file (now (a .1 .1 .0))) v
 unfolding sheetOf
 demand-2 κs a v w p = judged (file (now (a .0))) (file (now (a .1 .0))) (file (now (a .1 .1 .0))) v p
+
+-- "A line is 80 columns, then CR (13) and LF (10): 82 bytes. .. Columns 1 to 80 hold bytes 32 to 126." 3 of a file on disc says just that.
+pub on-disc : (f : List ℕ) (k : ℕ) → k < file f .count → Rule3 (file f) k ↔ Clean f k
+on-disc f k h = takes-is sps93 f k h
 
 pub demand-2-on : (κs : Lfts 3) (a : ArgsD check-on.signature κs) (v : ResD check-on.signature κs) (w : AtExit check-on.ended κs)
     → check-on-reads.Post κs a v w

@@ -100,6 +100,8 @@ module _ (r s x : List ℕ) where
         tells-spread (a .0) (subst Sized (sym (a .1)) (spread-sized r s x t k (length d / 2) (length e))) n (p .1 .0 ∙ ap hostNumber v),
       )
 
+-- "A C host gets one 64-bit number: a refusal as number * 2^40 + file * 2^32 + line * 256 + column (R 1, S 2, X 3); otherwise the traces, the
+-- R line * 16 + component, the channel, or the highest channel, and 0 where there is none."
 -- demands 1 and 2
 pub check-told : (κs : Lfts 3) (a : ArgsD sps-check.signature κs) (n : ResD sps-check.signature κs) (w : AtExit sps-check.ended κs)
     → sps-check-reads.Post κs a n w
