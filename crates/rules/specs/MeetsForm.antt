@@ -5,9 +5,9 @@
 --   Relates i f k        = line k of file i is a relation line
 --   Taken f k c          = the medium takes the byte in column c of line k
 --   FieldsRead M l ws    = each field of the table obeys its rule, but those that a marker has free, where M says that l is one
---   Checked M w          = the field is one of those
---   FirstOf M l ws c     = the first field that does not begins in column c
---   Counted q            = 6 of one relation line
+--   Checked M w          = the field is asked of the line: it is not one that a marker has free
+--   FirstOf M l ws c     = the first field from the left that breaks its rule, and it begins in column c
+--   Counted q            = 6 of one relation line, and Miscounted L q c that it is broken, in column c
 --   Rule1 .. Rule6       = the rules of those numbers
 --   Breach1 .. Breach6   = the contrary of each; of 3, 5 and 6 in that column
 --   Formed i f           = a field for each of the rules

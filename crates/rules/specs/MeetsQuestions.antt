@@ -7,6 +7,7 @@
 --   Leads p m q               = the relation line leads to component m of the receiver p
 --   Uncovered x t n c         = no relation line of that tape and record carries channel c
 --   Unreached r x t n j m     = none leads to component m of the receiver in R line j, or no receiver stands there
+--   Absent x t n              = no relation line is of that tape and record
 --   Highest x t n h           = h is the record's highest covered channel; 0 where the record is absent
 --   Room, Short               = both spread slices, of a and b places, have a place for each channel up to it; one has not
 --   lookupOrder, wayBackOrder, spreadOrder = "20 comes before 1 to 19, and 21 after them"

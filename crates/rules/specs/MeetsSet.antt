@@ -4,12 +4,15 @@
 --   Above rank v w      = v stands above w, by line name bytes, point, index
 --   Earlier v w         = v is earlier than w, by day then time
 --   At n p i v          = the point of that name, number and index
+--   SamePoint v w       = the same name, number and index
 --   PointAt f n p i j   = line j holds it
 --   Shot s v j          = line j of S holds the shot of a relation
 --   Receiver r q n j    = line j of R holds receiver number n of a reach
---   JustBefore f j k    = line j is the last receiver or shot before line k
+--   NoneBetween f j k   = no receiver or shot stands between lines j and k
+--   NamedBy s x k j     = line j of X is a relation line that names the shot in line k of S
 --   OfRecord t n q      = a reach of that tape and record
 --   Mates x k j         = line j is a relation line of the same tape and record as line k
+--   SameShot v w        = the same source, record increment and instrument
 --   Rule10 .. Rule19    = the rules of those numbers, of line k
 --   Breach10 .. Breach19 = the contrary of each
 use Prim.Native.Nat.{ℕ, suc, _≤_, _<_}

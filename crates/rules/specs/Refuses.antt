@@ -7,6 +7,8 @@
 --   Kept o             = each rule of it is met
 --   First o w          = w is its first breach: a rule is broken by w, and each rule before it is met
 --   formOrder i f      = "1, 2, then line by line 3 (whole line), 4, 5 by field from the left, 6"
+--   lineOrder, headerOrder, shotOrder, relationOrder = the parts of a line, of a header, of S and of X
+--   related x k R B v  = a rule of line k of X, where that is a relation line
 --   order r s x        = "First the form of R, then S, then X. .. Last 15."
 --   Refuses r s x w    = the set is refused by w
 use Prim.Native.Nat.{ℕ, _+_, _<_, min}
@@ -55,7 +57,6 @@ formOrder i f =
     then look (Rule2 f) (by (Breach2 f) (№ 2 i (mostLines + 1) 0))
     then lineByLine (f .count) (lineOrder i f)
 
--- 9 of file i
 abbrev pub headerOrder : ℕ → Sheet → Sheet → Order
 headerOrder i r f = look (Rule9 r f) (λ w. (k : ℕ) × inColumn (Breach9 r f k) (№ 9 i (k + 1)) w)
 
@@ -64,7 +65,6 @@ shotOrder s k =
     look (Rule11 s k) (by (Breach11 s k) (№ 11 fileS (k + 1) (s .layout .day .first)))
     then look (Rule12 s k) (by (Breach12 s k) (№ 12 fileS (k + 1) (s .layout .name .first)))
 
--- a rule of line k of X, where that is a relation line
 abbrev pub related : Sheet → ℕ → Type 0 → Type 0 → Refusal → Order
 related x k R B v = look (Data x k → R) (by (Data x k × B) v)
 
