@@ -2,9 +2,10 @@
 -- `bytes_on`, from their contracts. The twins read the files by `how`; the others read files on disc.
 --   Record                    = which record of which set is asked for
 --   traced, came-back         = what one answer says
+--   LookedUp, AskedBack       = a lookup, and the way back, of a record has that answer
 --   never-shared, there-and-back = what two answers of one record say
 --   tabled, bytes-tabled      = what the spread table says, and what stands in its slices
---   agrees, bytes-agree       = it agrees with the lookup
+--   agrees                    = each of its places agrees with the lookup of its channel, in either form
 use Prim.Native.Nat.{ℕ, _+_, _*_, _/_, _≤_, _<_}
 use mathlib.Core.Path.{_≡_, refl, sym, ap, subst, _∙_}
 use mathlib.Core.Logic.{_↔_}
