@@ -5,7 +5,7 @@ ghost use Prim.Native.Nat.{ℕ, _+_, _≤_, _<_};
 ghost use Rattle.rules.specs.Plan.{run, upTo};
 ghost use Rattle.rules.specs.Layout.{sps93};
 ghost use Rattle.rules.specs.Sheet.{mostLines};
-ghost use Rattle.rules.specs.Lines.{letter as letterOf, isHeader};
+ghost use Rattle.rules.specs.Lines.{isHeader};
 ghost use Rattle.rules.specs.Form.{lineFits, form as formOf};
 ghost use Rattle.lines.specs.Paper.{paper};
 ghost use Rattle.lines.specs.Reading.{sheetOf};
@@ -13,19 +13,6 @@ ghost use Rattle.form.specs.Steps.{headersTo, letterFits, numbersOf, fie
 use lines::Reading;
 use lines::Verdict;
 use records::fits;
-
-// The letter of file i.
-fn letter(i: u8) -> u8
-    ensures value { λ b. ⌜ b ≡ letterOf i ⌝ }
-{
-    if i == 1 {
-        return b'R';
-    }
-    if i == 2 {
-        return b'S';
-    }
-    b'X'
-}
 
 // 4 of line k: H where only header lines stand above it, or the file's letter.
 fn rule4(l: &[u8; 80], i: u8, k: usize, headers: bool) -> Verdict
@@ -38,7 +25,7 @@ fn rule4(l: &[u8; 80], i: u8, k: usize, headers: bool) -> Verdict
         }
         return lines::at_line(4, i, k, 1);
     }
-    if l[0] == letter(i) {
+    if l[0] == lines::letter(i) {
         return Verdict::Fine;
     }
     lines::at_line(4, i, k, 1)

@@ -9,7 +9,8 @@ use lib.ListN.{length, getD, take, drop, set, length-take, length-drop}
 use borrow.Author.Tests.{eq-eqb, ne-eqb, le-leb, lt-leb}
 use lib.Seq.{drop-cons, getD-take, getD-drop, getD-set-same, getD-set-other, ext-getD}
 use Rattle.rules.specs.Places.{pick}
-use Rattle.rules.specs.Plan.{fine, refused, №, run, _before_}
+use Rattle.rules.specs.Plan.{fine, refused, №, run, _before_, fileR, fileS}
+use Rattle.rules.specs.Lines.{letter}
 use Rattle.rules.specs.Sheet.{Sheet, mostLines}
 use Rattle.rules.specs.Form.{rule1, rule2}
 use Rattle.rules.specs.Disc.{byteFits}
@@ -18,6 +19,19 @@ use Rattle.rules.proofs.Tests.{more}
 use Rattle.rules.proofs.Steps.{need-met, need-broken, before-met, before-broken}
 use Rattle.rules.specs.MeetsDisc.{Proper}
 use Rattle.lines.specs.Reading.{Printed}
+
+-- the letter of a file
+pub letter-r : (i : ℕ) → i ≡ fileR → 82 ≡ letter i
+unfolding letter pick
+letter-r i e = rw e
+
+pub letter-s : (i : ℕ) → i ≡ fileS → 83 ≡ letter i
+unfolding letter pick
+letter-s i e = rw e
+
+pub letter-x : (i : ℕ) → (i ≡ fileR → ⊥) → (i ≡ fileS → ⊥) → 88 ≡ letter i
+unfolding letter pick
+letter-x i n m = rw (ne-eqb _ _ n, ne-eqb _ _ m)
 
 -- the first c columns of l are those of f from a on
 abbrev pub Copied : List ℕ → List ℕ → ℕ → ℕ → Type 0

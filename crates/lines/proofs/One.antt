@@ -5,6 +5,8 @@ use Rattle.lines.proofs.at_line as at-line
 use Rattle.lines.proofs.at_line.Reads as at-line-reads
 use Rattle.lines.proofs.disc as disc
 use Rattle.lines.proofs.disc.Reads as disc-reads
+use Rattle.lines.proofs.letter as letter
+use Rattle.lines.proofs.letter.Reads as letter-reads
 use Rattle.lines.proofs.line_count as line-count
 use Rattle.lines.proofs.line_count.Reads as line-count-reads
 use Rattle.lines.proofs.length_fits as length-fits
@@ -31,6 +33,9 @@ verdict-one (Refused n f l c) (Refused n′ f′ l′ c′) e = cc
 
 pub disc-one : One disc.ended disc-reads.Post
 disc-one κs a v v′ w w′ = alike
+
+pub letter-one : One letter.ended letter-reads.Post
+letter-one κs a v v′ w w′ = alike
 
 pub line-count-one : One line-count.ended line-count-reads.Post
 line-count-one κs a v v′ w w′ = alike

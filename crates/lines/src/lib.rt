@@ -8,6 +8,7 @@ ghost use denote.Ref.{ptr};
 ghost use Rattle.rules.specs.Places.{pick};
 ghost use Rattle.rules.specs.Plan.{refused, №, run, _before_};
 ghost use Rattle.rules.specs.Disc.{byteFits};
+ghost use Rattle.rules.specs.Lines.{letter as letterOf};
 ghost use Rattle.rules.specs.Form.{stray as strayOf, rule1, rule2};
 ghost use Rattle.rules.specs.Show.{shown as columnsOf, start, ofS, show as showOf, startIn};
 ghost use Rattle.lines.specs.Paper.{paper, into};
@@ -49,6 +50,19 @@ fn stride(how: Reading) -> usize
     match m {
         Medium::Disc => 82,
     }
+}
+
+// The letter of file i: R 1, S 2, X any other.
+pub fn letter(i: u8) -> u8
+    ensures value { λ b. ⌜ b ≡ letterOf i ⌝ }
+{
+    if i == 1 {
+        return b'R';
+    }
+    if i == 2 {
+        return b'S';
+    }
+    b'X'
 }
 
 // Refusal n of file i, at column c of line k, from 0.

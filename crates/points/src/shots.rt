@@ -37,10 +37,10 @@ fn rule11(how: Reading, s: &[u8], k: usize, last: u64, t: u64) -> Verdict
     if t == 0 {
         return Verdict::Fine;
     }
-    if last <= t {
-        return Verdict::Fine;
+    if t < last {
+        return lines::at_line(11, 2, k, 72);
     }
-    lines::at_line(11, 2, k, 72)
+    Verdict::Fine
 }
 
 // 12 of line k, where `again` is the first shot that repeats an earlier one.

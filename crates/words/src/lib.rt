@@ -24,19 +24,6 @@ pub fn place(p: &[u8], out: &mut [u8])
     text::add(p, out, 0);
 }
 
-// The letter of file i.
-fn letter(i: u8) -> u8
-    ensures value { λ b. ⌜ b ≡ letterOf i ⌝ }
-{
-    if i == 1 {
-        return b'R';
-    }
-    if i == 2 {
-        return b'S';
-    }
-    b'X'
-}
-
 // The line of an accepted set.
 fn accepted(r: u64, s: u64, x: u64, t: u64, line: &mut [u8; 96]) -> usize
     ensures added { λ n. ⌜ Adds (now (line .entry)) 0 (rowOf (bytes "ACCEPTED") (decimal r) (decimal s) (decimal x) (decimal t)) (now (line .exit)) n ⌝ }
@@ -57,7 +44,7 @@ fn refused(n: u8, f: u8, l: u32, c: u8, line: &mut [u8; 96]) -> usize
 {
     let a = text::add(b"REFUSED", line, 0);
     let b = text::number(n as u64, line, a);
-    let file = [b' ', letter(f)];
+    let file = [b' ', lines::letter(f)];
     let d = text::add(&file, line, b);
     let e = text::number(l as u64, line, d);
     let g = text::number(c as u64, line, e);
@@ -95,7 +82,7 @@ fn of_file(word: &[u8], i: u8, out: &mut [u8]) -> usize
 {
     let mut line = [0u8; 16];
     let n = text::add(word, &mut line, 0);
-    let tail = [letter(i), b'\n'];
+    let tail = [lines::letter(i), b'\n'];
     let m = text::add(&tail, &mut line, n);
     place(&line[..m], out);
     m

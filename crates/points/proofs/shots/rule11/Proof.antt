@@ -12,22 +12,22 @@ returns c =
     let p = c .before .before .pre in
     eleven-other _ (p .0) _ (p .1 .0) _ (p .1 .1 .own) (c .if1 .taken)
 
-returns-2 : tie.Need-returns-2
-returns-2 c =
-    let p = c .before .before .before .pre in
-    eleven-fine _ (p .0) _ (p .1 .0) _ (p .1 .1 .own) (c .before .if1 .left) _ (p .1 .1 .before) (c .if2 .taken)
-
 at-line-requires : tie.Need-at-line-requires
 unfolding mostLines
 at-line-requires c κs = search needs
 
-returns-3 : tie.Need-returns-3
-returns-3 c =
+returns-2 : tie.Need-returns-2
+returns-2 c =
     let a = c .before .before .before .before .args in
     let p = c .before .before .before .before .pre in
     c .at-line .ensures
-    ∙ eleven-broken _ (p .0) _ (p .1 .0) _ (p .1 .1 .own) (c .before .before .if1 .left) _ (p .1 .1 .before) (c .before .if2 .left)
+    ∙ eleven-broken _ (p .0) _ (p .1 .0) _ (p .1 .1 .own) (c .before .before .if1 .left) _ (p .1 .1 .before) (c .before .if2 .taken)
     (layout-is (a .how) (a .s .now))
 
+returns-3 : tie.Need-returns-3
+returns-3 c =
+    let p = c .before .before .before .pre in
+    eleven-fine _ (p .0) _ (p .1 .0) _ (p .1 .1 .own) (c .before .if1 .left) _ (p .1 .1 .before) (c .if2 .left)
+
 pub rule11-spec : {M : Type 1} → statement M
-rule11-spec = tie.close (tie.spec returns returns-2 at-line-requires returns-3)
+rule11-spec = tie.close (tie.spec returns at-line-requires returns-2 returns-3)
