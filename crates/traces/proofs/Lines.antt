@@ -1,10 +1,12 @@
 -- Lines of X and of R, by what the code finds in them.
---   passes-off, passes-on = a line of the record that passes a test, or not; walk-of = the first of them is the search's
+--   passes-off, passes-on = a line of the record that passes a test, or not; walk-of = the first of them is the search's;
+--                           found-line = what the search finds
 --   line-of-key           = the first line with a receiver's key is the receiver's
 use Prim.Native.Nat.{ℕ, _<_}
 use native.Mathlib.Omega.{arith}
 use mathlib.Core.Path.{_≡_, refl, sym, ap, _∙_}
 use mathlib.Core.Bool.{Bool, true, false, _&&_, and-assoc}
+use mathlib.Core.Logic.{⊎-elim}
 use mathlib.Core.List.{List}
 use Rattle.rules.specs.Places.{least}
 use Rattle.rules.specs.Plan.{fileX}
@@ -14,6 +16,8 @@ use Rattle.rules.specs.Lines.{isData, isPoint}
 use Rattle.rules.specs.Relations.{Reach, reachAt}
 use Rattle.rules.specs.Reaches.{reachesOf, ofRecord, search}
 use Rattle.rules.specs.Order.{isPointAt, lineOfPoint, receiverLine}
+use Rattle.rules.proofs.Form.{data-is}
+use Rattle.rules.proofs.Search.{search-is}
 use Rattle.lines.specs.Reading.{sheetOf}
 use Rattle.lines.specs.declared.Reading.{Reading}
 use Rattle.lines.proofs.Sheets.{layout-is}
@@ -59,6 +63,12 @@ walk-of x known t n asked w e p =
     (λ k h.
     ap (λ (b : Bool). b && p (reachAt x k)) (ap (λ (v : Wanted). isOf x v k) e ∙ is-of x known t n asked k h)
     ∙ and-assoc (isData x k) (ofRecord t n (reachAt x k)) (p (reachAt x k)))
+
+-- the line that the search finds
+pub found-line : (x : Sheet) (t : List ℕ) (n : ℕ) (p : Reach → Bool) (k : ℕ) → k ≡ search (reachesOf x) t n p → k < x .count
+    → RelationLine x k × (p (reachAt x k) ≡ true)
+found-line x t n p k e g =
+    ⊎-elim (λ w. ((g, rw e (data-is x _ .1 (w .1 .0 .0))), rw e (w .1 .1))) (λ w. let z = w .0 in absurd (omega arith)) (search-is x t n p)
 
 -- a key as the code has it
 pub key-read : (how : Reading) (x : List ℕ) (k n : ℕ) (y : Key) → y ≡ receiverKey sps93 (sheetOf how x .row k) n

@@ -13,12 +13,12 @@ use Rattle.traces.proofs.asked.channel as asked-channel
 use Rattle.traces.proofs.asked.channel.Reads as asked-channel-reads
 use Rattle.traces.proofs.asked.receiver as asked-receiver
 use Rattle.traces.proofs.asked.receiver.Reads as asked-receiver-reads
-use Rattle.traces.proofs.forth.carrier as forth-carrier
-use Rattle.traces.proofs.forth.carrier.Reads as forth-carrier-reads
+use Rattle.traces.proofs.search.first as search-first
+use Rattle.traces.proofs.search.first.Reads as search-first-reads
 use Rattle.traces.proofs.forth.receiver_line as forth-receiver-line
 use Rattle.traces.proofs.forth.receiver_line.Reads as forth-receiver-line-reads
-use Rattle.traces.proofs.back.reacher as back-reacher
-use Rattle.traces.proofs.back.reacher.Reads as back-reacher-reads
+use Rattle.traces.proofs.back.reaches as back-reaches
+use Rattle.traces.proofs.back.reaches.Reads as back-reaches-reads
 use Rattle.traces.proofs.trace_on as trace-on
 use Rattle.traces.proofs.trace_on.Reads as trace-on-reads
 use Rattle.traces.proofs.trace as trace
@@ -63,14 +63,14 @@ asked-channel-one κs a v v′ w w′ = alike
 pub asked-receiver-one : One asked-receiver.ended asked-receiver-reads.Post
 asked-receiver-one κs a v v′ w w′ = alike
 
-pub forth-carrier-one : One forth-carrier.ended forth-carrier-reads.Post
-forth-carrier-one κs a v v′ w w′ = alike
+pub search-first-one : One search-first.ended search-first-reads.Post
+search-first-one κs a v v′ w w′ = alike
 
 pub forth-receiver-line-one : One forth-receiver-line.ended forth-receiver-line-reads.Post
 forth-receiver-line-one κs a v v′ w w′ = alike
 
-pub back-reacher-one : One back-reacher.ended back-reacher-reads.Post
-back-reacher-one κs a v v′ w w′ = alike
+pub back-reaches-one : One back-reaches.ended back-reaches-reads.Post
+back-reaches-one κs a v v′ w w′ = alike
 
 pub trace-on-one : One trace-on.ended trace-on-reads.Post
 trace-on-one κs a v v′ w w′ p p′ = (answer-one v v′ (p ∙ sym p′), refl)

@@ -126,12 +126,6 @@ module _ (r x : Sheet) (t : List ℕ) (n c k : ℕ) (e : k ≡ search (reachesOf
     unfolding found pick tracedOn
     one-carries = rw (← e, lt-ltb k (x .count) (omega arith))
 
-    -- the line that the search finds
-    pub carrier-is : RelationLine x k × (carries (reachAt x k) c ≡ true)
-    carrier-is =
-        ⊎-elim (λ w. ((omega arith, rw e (data-is x _ .1 (w .1 .0 .0))), rw e (w .1 .1))) (λ w. let z = w .0 in absurd (omega arith))
-        (search-is x t n (λ q. carries q c))
-
 -- what the line that carries the channel leads to
 module _ (r x : Sheet) (ok : Accepted r x) (k c : ℕ) (h : RelationLine x k) (y : carries (reachAt x k) c ≡ true) (q : Numbers)
     (f : q ≡ codedReach (reachAt x k)) where

@@ -135,9 +135,3 @@ module _ (r x : Sheet) (t : List ℕ) (n j m : ℕ) where
           pub one-reaches : channel (channelOf (reachAt x k) (pointAt r i .number) m) ≡ foundBack r x t n j m
           unfolding foundBack pick
           one-reaches = rw (le-leb 1 j o, le-leb j (r .count) l, point-is, y, ← z, ← e, lt-ltb k (x .count) (omega arith))
-
-          -- the line that the search finds
-          pub reacher-is : RelationLine x k × (reaches (pointAt r i) m (reachAt x k) ≡ true)
-          reacher-is =
-              ⊎-elim (λ w. ((omega arith, rw e (data-is x _ .1 (w .1 .0 .0))), rw e (w .1 .1))) (λ w. let u = w .0 in absurd (omega arith))
-              (search-is x t n (reaches (pointAt r i) m))

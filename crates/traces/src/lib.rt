@@ -20,11 +20,13 @@ use keys::Keyed;
 use lines::Reading;
 use records::cover;
 use records::relation;
+use search::Sought;
 use sets::Answer as SetAnswer;
 
 mod asked;
 mod back;
 mod forth;
+mod search;
 
 // What a question is answered: a receiver's line in R and its component, a channel, no trace; or a refusal, with number, file, line
 // and column.
@@ -63,7 +65,7 @@ fn found(how: Reading, r: &[u8], x: &[u8], tape: &[u8], record: u64, channel: u6
     requires { ⌜ Accepted (sheetOf how (now r)) (sheetOf how (now x)) × Asked (now tape) «record» ⌝ }
     ensures answer { λ a. ⌜ paper a ≡ foundOf (sheetOf how (now (r .entry))) (sheetOf how (now (x .entry))) (now (tape .entry)) «record» channel ⌝ }
 {
-    let k = forth::carrier(how, x, tape, record, channel);
+    let k = search::first(how, r, x, tape, record, Sought::Channel(channel));
     if lines::line_count(how, x) <= k {
         return Answer::NoTrace;
     }
@@ -138,7 +140,7 @@ fn found_back(
     ) {
         return Answer::NoTrace;
     }
-    let k = back::reacher(how, r, i, x, tape, record, component);
+    let k = search::first(how, r, x, tape, record, Sought::Component(i, component));
     if lines::line_count(how, x) <= k {
         return Answer::NoTrace;
     }

@@ -1,6 +1,7 @@
 -- `traces::found_back` meets its contract. Assumes nothing.
 use Rattle.lines.specs.Reading.{sheetOf}
-use Rattle.traces.proofs.Ways.{beyond-file, no-point, none-reaches, one-reaches, reacher-is, receiver-line}
+use Rattle.traces.proofs.Lines.{found-line}
+use Rattle.traces.proofs.Ways.{beyond-file, no-point, none-reaches, one-reaches, receiver-line}
 use borrow.Author.Needs.{needs}
 use borrow.Author.Tests.{not-false, not-true}
 use mathlib.Core.Path.{_∙_, refl}
@@ -33,8 +34,8 @@ returns-2 c =
     no-point (sheetOf (a .how) (a .r .now)) (sheetOf (a .how) (a .x .now)) (a .tape .now) (a .«record») (a .r-line) (a .component) (p .1 .1)
     (omega arith) _ refl _ (c .before .takes .ensures) (not-true _ (c .if2 .taken))
 
-reacher-requires : tie.Need-reacher-requires
-reacher-requires c κs =
+first-requires : tie.Need-first-requires
+first-requires c κs =
     let b = c .before .before .before .before .before .before .before in
     let a = b .args in
     let p = b .pre in
@@ -57,7 +58,7 @@ returns-3 c =
     let n = b .before .before .line-count .ensures in
     let l = b .before .if1 .left in
     none-reaches (sheetOf (a .how) (a .r .now)) (sheetOf (a .how) (a .x .now)) (a .tape .now) (a .«record») (a .r-line) (a .component) (p .1 .1)
-    (omega arith) _ refl _ (b .takes .ensures) (not-false _ (c .before .before .before .if2 .left)) _ (c .before .before .reacher .ensures) _
+    (omega arith) _ refl _ (b .takes .ensures) (not-false _ (c .before .before .before .if2 .left)) _ (c .before .before .first .ensures) _
     (c .before .line-count2 .ensures) (c .if3 .taken)
 
 returned-requires : tie.Need-returned-requires
@@ -70,14 +71,14 @@ returned-requires c κs =
     let p = d .pre in
     let n = b .before .before .before .line-count .ensures in
     let l = b .before .before .if1 .left in
-    let w = reacher-is R X (a .tape .now) (a .«record») (a .r-line) (a .component) (p .1 .1) (omega arith) _ refl _ (b .before .takes .ensures)
-    (not-false _ (b .if2 .left)) _ (c .before .before .reacher .ensures) _ (c .before .line-count2 .ensures) (c .if3 .left) in (
+    let m = c .before .line-count2 .ensures in
+    let k = c .if3 .left in (
       (
         p .0,
         receiver-line R X (a .tape .now) (a .«record») (a .r-line) (a .component) (p .1 .1) (omega arith) _ refl _ (b .before .takes .ensures)
             (not-false _ (b .if2 .left)) (p .0 .receivers),
       ),
-      (w .0, w .1),
+      found-line X (a .tape .now) (a .«record») _ _ (c .before .before .first .ensures) (omega arith),
     )
 
 returns-4 : tie.Need-returns-4
@@ -90,7 +91,7 @@ returns-4 c =
     let l = b .before .before .if1 .left in
     c .returned .ensures
     ∙ one-reaches (sheetOf (a .how) (a .r .now)) (sheetOf (a .how) (a .x .now)) (a .tape .now) (a .«record») (a .r-line) (a .component) (p .1 .1)
-    (omega arith) _ refl _ (b .before .takes .ensures) (not-false _ (b .if2 .left)) _ (c .before .before .before .reacher .ensures) _
+    (omega arith) _ refl _ (b .before .takes .ensures) (not-false _ (b .if2 .left)) _ (c .before .before .before .first .ensures) _
     (c .before .before .line-count2 .ensures) (c .before .if3 .left)
 
 pub found-back-spec : {M : Type 1} → statement M
@@ -102,7 +103,7 @@ found-back-spec =
     sub-i
     takes-requires
     returns-2
-    reacher-requires
+    first-requires
     line-count-requires-2
     returns-3
     returned-requires

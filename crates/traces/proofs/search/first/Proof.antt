@@ -1,25 +1,22 @@
--- `traces::back::reacher` meets its contract. Assumes nothing.
+-- `traces::search::first` meets its contract. Assumes nothing.
 use Prim.Native.Nat.{_-_, _≤_, ℕ}
 use Rattle.lines.specs.Reading.{sheetOf}
 use Rattle.rules.proofs.Steps.{least-more, least-none-yet, least-stop}
-use Rattle.rules.specs.Cover.{component}
-use Rattle.rules.specs.Lookup.{reaches}
 use Rattle.rules.specs.Places.{least}
-use Rattle.rules.specs.Points.{pointAt}
 use Rattle.traces.proofs.Lines.{walk-of}
-use Rattle.traces.specs.Steps.{passes}
+use Rattle.traces.specs.Steps.{finds, passes}
 use borrow.Author.Needs.{needs}
 use mathlib.Core.Path.{_∙_, _≡_, ap, sym}
 use native.Mathlib.Omega.{arith}
-use Rattle.traces.proofs.back.reacher.Statement.{statement}
-use Rattle.traces.proofs.back.reacher.Tie as tie
+use Rattle.traces.proofs.search.first.Statement.{statement}
+use Rattle.traces.proofs.search.first.Tie as tie
 
 abbrev Inv-loop : tie.InvT-loop
-Inv-loop how r i x tape «record» component w count k₀ k =
-    (k ≤ count) × (least k (passes (sheetOf how x) w (reaches (pointAt (sheetOf how r) i) component)) ≡ k)
+Inv-loop how r x tape «record» what w count k₀ k =
+    (k ≤ count) × (least k (passes (sheetOf how x) w (finds (sheetOf how r) what)) ≡ k)
 
 abbrev μ-loop : tie.MeasureT-loop
-μ-loop how r i x tape «record» component w count k₀ k = count - k
+μ-loop how r x tape «record» what w count k₀ k = count - k
 
 coded-requires : tie.Need-coded-requires Inv-loop μ-loop
 coded-requires c κs = c .before .before .before .pre .1 .1
@@ -46,8 +43,7 @@ returns c =
     let n = b .before .line-count .ensures in
     let y = c .before .before .loop-test .taken in
     sym (least-stop _ _ (X .count) (omega arith) (b .loop .inv .1) (sym (c .before .is-here .ensures) ∙ c .if1 .taken))
-    ∙ walk-of X (p .1 .0) (a .tape .now) (a .«record») (p .1 .1) _ (b .before .before .coded .ensures)
-    (reaches (pointAt (sheetOf (a .how) (a .r .now)) (a .i)) (a .component))
+    ∙ walk-of X (p .1 .0) (a .tape .now) (a .«record») (p .1 .1) _ (b .before .before .coded .ensures) (finds (sheetOf (a .how) (a .r .now)) (a .what))
 
 add-k : tie.Need-add-k Inv-loop μ-loop
 add-k c = search needs
@@ -61,20 +57,21 @@ loop-again c = (omega arith, least-more _ _ (c .before .before .before .loop .in
 returns-2 : tie.Need-returns-2 Inv-loop μ-loop
 returns-2 c =
     let b = c .before .before in
-    let a = b .before .before .before .before .before .args in
-    let R = sheetOf (a .how) (a .r .now) in
+    let d = b .before .before .before .before .before in
+    let a = d .args in
     let X = sheetOf (a .how) (a .x .now) in
-    let p = b .before .before .before .before .before .pre in
+    let p = d .pre in
     let at = c .before .loop in
     let n = b .line-count .ensures in
     let y = c .loop-test .left in
+    let f = finds (sheetOf (a .how) (a .r .now)) (a .what) in
     let z : b .line-count .result ≡ at .k = omega arith in
     let u : at .k ≡ X .count = omega arith in
-    z ∙ sym (at .inv .1) ∙ ap (λ (i : ℕ). least i (passes X (b .before .coded .result) (reaches (pointAt R (a .i)) (a .component)))) u
-    ∙ walk-of X (p .1 .0) (a .tape .now) (a .«record») (p .1 .1) _ (b .before .coded .ensures) (reaches (pointAt R (a .i)) (a .component))
+    z ∙ sym (at .inv .1) ∙ ap (λ (i : ℕ). least i (passes X (b .before .coded .result) f)) u
+    ∙ walk-of X (p .1 .0) (a .tape .now) (a .«record») (p .1 .1) _ (b .before .coded .ensures) f
 
-pub reacher-spec : {M : Type 1} → statement M
-reacher-spec =
+pub first-spec : {M : Type 1} → statement M
+first-spec =
     tie.close
     (tie.spec
     Inv-loop
