@@ -24,7 +24,7 @@ use Rattle.rules.proofs.Columns.{cols-length}
 use Rattle.rules.proofs.Sizes.{small-more, whole-small}
 use Rattle.rules.proofs.Breach.{run-met}
 use Rattle.rules.specs.MeetsForm.{Formed}
-use Rattle.rules.proofs.Form.{clean-stray}
+use Rattle.rules.proofs.Raw.{clean-stray}
 use Rattle.rules.proofs.Meets.{form-is}
 use Rattle.lines.specs.declared.Reading.{Reading}
 use Rattle.lines.specs.Reading.{sheetOf}

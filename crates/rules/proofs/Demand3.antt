@@ -41,7 +41,8 @@ use Rattle.rules.proofs.Breach.{Met, Broken, run-met, run-broken, no-fi
 use Rattle.rules.proofs.Fields.{kind-is}
 use Rattle.rules.proofs.Form.{need-breaks}
 use Rattle.rules.proofs.Cover.{reached}
-use Rattle.rules.proofs.Refuses.{Same, same-look, same-then, rules-same}
+use Rattle.rules.proofs.Refuses.{rules-same}
+use Rattle.rules.proofs.Same.{Same, same-look, same-then}
 use Rattle.rules.proofs.Meets.{verdict-meets}
 use Rattle.rules.proofs.Accepted.{sound, receiver-there, receiver-line}
 use Rattle.rules.proofs.Traces.{found-view, back-view, not-carried, not-reached, found-trace}

@@ -27,7 +27,7 @@ use Rattle.rules.specs.Meets.{Meets}
 use Rattle.rules.proofs.Tests.{says}
 use Rattle.rules.proofs.Columns.{cols-length, cols-at}
 use Rattle.rules.proofs.Fields.{whole-size}
-use Rattle.rules.proofs.Form.{stray-none, clean-stray}
+use Rattle.rules.proofs.Raw.{stray-none, clean-stray}
 use Rattle.rules.proofs.Accepted.{fields}
 use Rattle.rules.proofs.Demand3.{Askable}
 

@@ -32,7 +32,8 @@ use Rattle.rules.proofs.Accepted.{sound}
 use Rattle.rules.proofs.Traces.{found-view, back-view, traced-range, back-range}
 use Rattle.rules.proofs.Demand3.{asked-then}
 use Rattle.rules.proofs.Spreads.{spread-fine, few}
-use Rattle.rules.proofs.Listed.{Only, run-only, listed-within, rules-listed, asked-listed, room-listed}
+use Rattle.rules.proofs.Listed.{Only, run-only, rules-listed, asked-listed, room-listed}
+use Rattle.rules.proofs.ListedSizes.{listed-within}
 
 abbrev pub Sized : Answer → Type 0
 Sized (accepted a b c t) = t < 2 ^ 40

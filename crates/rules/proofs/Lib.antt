@@ -8,11 +8,13 @@ pub mod Numbers
 pub mod Sizes
 pub mod Fields
 pub mod Form
+pub mod Raw
 pub mod Projection
 pub mod Headers
 pub mod Cover
 pub mod Above
 pub mod Order
+pub mod Same
 pub mod Refuses
 pub mod Meets
 pub mod Search
@@ -23,6 +25,7 @@ pub mod Disc
 pub mod Counts
 pub mod Turns
 pub mod Spreads
+pub mod ListedSizes
 pub mod Listed
 pub mod Hosts
 pub mod Table

@@ -1,20 +1,19 @@
 -- Every refusal of a disc set is from the published list.
 --   Only P p       = each refusal that the plan can give is such, where what is looked for before it is met
---   listed-within  = what the list says of the sizes of a number, file, line and column
 --   rules-listed   = the refusals of the set check are listed
 use Prim.Native.Nat.{ℕ, zero, suc, _+_, _*_, _≤_, _<_, min}
 use native.Mathlib.Omega.{arith}
 use mathlib.Core.Path.{_≡_, refl, sym, ap, _∙_, subst}
 use mathlib.Core.Logic.{_⊎_, inl, inr, ⊎-elim}
-use mathlib.Core.Bool.{Bool, true, false, not, _&&_, _||_}
+use mathlib.Core.Bool.{Bool, true, false, not, _&&_}
 use mathlib.Core.List.{List, [], _∷_}
-use lib.Dec.{eqb, leb}
+use lib.Dec.{eqb}
 use lib.ListN.{length, take, drop, length-take}
-use borrow.Author.Tests.{le-leb, eqb-true, eq-eqb}
+use borrow.Author.Tests.{le-leb, eq-eqb}
 use Rattle.rules.specs.Places.{pick}
 use Rattle.rules.specs.Plan.{Refusal, №, refused, Plan, fileR, fileS, fileX, pass, need, _before_, upTo, when, run}
 use Rattle.rules.specs.Layout.{Span, _to_, letterColumn, sps93}
-use Rattle.rules.specs.Sheet.{Sheet, mostLines}
+use Rattle.rules.specs.Sheet.{mostLines}
 use Rattle.rules.specs.Disc.{byteFits, disc, file}
 use Rattle.rules.specs.Lines.{isHeader, heads as headCount}
 use Rattle.rules.specs.Rows.{Row, headerRows, pointRows, relationRows}
@@ -23,7 +22,7 @@ use Rattle.rules.specs.Headers.{rule7, rule8, sameColumns, rule9}
 use Rattle.rules.specs.Order.{rule10, rule11, rule12, rule13, rule14, rule15, rule16, rule17, rule18, rule19}
 use Rattle.rules.specs.Check.{relationFits, rules}
 use Rattle.rules.specs.Listed.{Entry, row, begins, published, oneOfFiles, inSpan, inSpans, standsIn, isListed, Listed}
-use Rattle.rules.proofs.Tests.{says, clash, and-is, or-is, leb-is, eqb-is}
+use Rattle.rules.proofs.Tests.{clash, and-is, or-is, leb-is}
 use Rattle.rules.proofs.Breach.{Met, Broken, run-broken}
 use Rattle.rules.proofs.Headers.{heads-few}
 
@@ -45,71 +44,6 @@ broken-only P (when t p) w o b = broken-only P p w (o (b .0)) (b .1)
 
 pub run-only : (P : Refusal → Type 0) (p : Plan) (w : Refusal) → Only P p → run p ≡ refused w → P w
 run-only P p w o e = broken-only P p w o (run-broken p w .0 e)
-
--- the sizes of what is listed, by one computed test of the list
-abbrev filesWithin : List ℕ → Bool
-filesWithin [] = true
-filesWithin (f ∷ fs) = leb f 3 && filesWithin fs
-
-abbrev columnsWithin : List Span → Bool
-columnsWithin [] = true
-columnsWithin (s ∷ ss) = leb (s .last) 82 && columnsWithin ss
-
-abbrev within : List Entry → Bool
-within [] = true
-within (e ∷ es) =
-    (leb 1 (e .number) && leb (e .number) 21) && (filesWithin (e .files) && (leb (e .lines .last) 10000 && (columnsWithin (e .columns) && within es)))
-
-abbrev pub Sizes : ℕ → ℕ → ℕ → ℕ → Type 0
-Sizes n f l c = ((1 ≤ n) × (n ≤ 21)) × ((f ≤ 3) × ((l ≤ 10000) × (c ≤ 82)))
-
-file-within : (f : ℕ) (fs : List ℕ) → filesWithin fs ≡ true → oneOfFiles f fs ≡ true → f ≤ 3
-unfolding oneOfFiles
-file-within f [] w e = clash e
-file-within f (g ∷ gs) w e =
-    let y = and-is _ _ .0 w in
-    ⊎-elim (λ t. let q = eqb-true g f t in let l = leb-is g 3 .0 (y .0) in omega arith) (λ t. file-within f gs (y .1) t) (or-is _ _ .0 e)
-
-column-within : (c : ℕ) (ss : List Span) → columnsWithin ss ≡ true → inSpans c ss ≡ true → c ≤ 82
-unfolding inSpans inSpan
-column-within c [] w e = clash e
-column-within c (s ∷ ss) w e =
-    let y = and-is _ _ .0 w in
-    ⊎-elim
-    (λ t.
-    let z = leb-is c (s .last) .0 (and-is (leb (s .first) c) (leb c (s .last)) .0 t .1) in
-    let l = leb-is (s .last) 82 .0 (y .0) in
-    omega arith)
-    (λ t. column-within c ss (y .1) t) (or-is (inSpan c s) (inSpans c ss) .0 e)
-
-entry-within : (es : List Entry) (n f l c : ℕ) → within es ≡ true → isListed es n f l c ≡ true → Sizes n f l c
-unfolding isListed standsIn inSpan
-entry-within [] n f l c w e = clash e
-entry-within (d ∷ es) n f l c w e =
-    let y = and-is _ _ .0 w in
-    let z = and-is _ _ .0 (y .0) in
-    let v = and-is _ _ .0 (y .1) in
-    let p = and-is _ _ .0 (v .1) in
-    let q = and-is _ _ .0 (p .1) in
-    ⊎-elim
-    (λ t.
-    let a = and-is _ _ .0 t in
-    let b = and-is _ _ .0 (a .1) in
-    let k = and-is _ _ .0 (b .1) in
-    let no = eqb-true (d .number) n (a .0) in
-    let low = leb-is 1 (d .number) .0 (z .0) in
-    let high = leb-is (d .number) 21 .0 (z .1) in
-    let last = leb-is (d .lines .last) 10000 .0 (p .0) in
-    let line = leb-is l (d .lines .last) .0 (and-is (leb (d .lines .first) l) (leb l (d .lines .last)) .0 (k .0) .1) in (
-      (omega arith, omega arith),
-      (file-within f (d .files) (v .0) (b .0), (omega arith, column-within c (d .columns) (q .0) (k .1))),
-    ))
-    (λ t. entry-within es n f l c (q .1) t)
-    (or-is (standsIn d n f l c) (isListed es n f l c) .0 e)
-
-pub listed-within : (n f l c : ℕ) → Listed (№ n f l c) → Sizes n f l c
-unfolding published begins headerRows pointRows relationRows sps93
-listed-within n f l c e = entry-within published n f l c refl e
 
 -- what stands in a row of the list is listed
 abbrev none : Entry

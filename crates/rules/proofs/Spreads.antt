@@ -27,7 +27,8 @@ use Rattle.rules.proofs.Contrary.{not-and, not-leb}
 use Rattle.rules.proofs.Breach.{run-met}
 use Rattle.rules.proofs.Form.{data-is, need-breaks}
 use Rattle.rules.proofs.Order.{of-record-is}
-use Rattle.rules.proofs.Refuses.{same-look, same-then, rules-same}
+use Rattle.rules.proofs.Refuses.{rules-same}
+use Rattle.rules.proofs.Same.{same-look, same-then}
 use Rattle.rules.proofs.Meets.{verdict-meets}
 use Rattle.rules.proofs.Turns.{turns-length, turns-after, turns-at, bytes-after, bytes-numbers}
 use Rattle.rules.proofs.Accepted.{sound}

@@ -13,7 +13,7 @@ use Rattle.rules.specs.Spread.{highestOf, spreadVerdict, spread}
 use Rattle.rules.specs.Hosts.{packed, hostNumber}
 use Rattle.rules.specs.Listed.{Listed}
 use Rattle.rules.proofs.Traces.{found-view, back-view}
-use Rattle.rules.proofs.Listed.{listed-within}
+use Rattle.rules.proofs.ListedSizes.{listed-within}
 use Rattle.rules.proofs.Hosts.{Sized, refusal-parts}
 use Rattle.sets.specs.declared.Answer.{Answer as SetAnswer}
 use Rattle.sets.specs.declared.Answer.the-variants.{Accepted, Refused as SetRefused}
