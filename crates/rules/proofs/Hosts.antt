@@ -3,35 +3,35 @@
 --   tells          = the number is from 2^40 on exactly where the answer is a refusal
 --   refusal-parts, trace-parts = the parts of a refusal and of a trace, from the number
 --   check-sized, lookup-sized, back-sized, spread-sized = what the calls answer of disc files is so
-use Prim.Native.Nat.{ℕ, zero, suc, _+_, _*_, _/_, _%_, _^_, _≤_, _<_}
+use Prim.Native.Nat.{ℕ, zero, suc, _*_, _/_, _%_, _^_, _≤_, _<_}
 use native.Mathlib.Nat.{lt-suc-self}
 use native.Mathlib.Omega.{arith}
-use mathlib.Core.Path.{_≡_, refl, sym, subst, _∙_}
+use mathlib.Core.Path.{_≡_, refl, sym, subst}
 use mathlib.Core.Logic.{_↔_, ⊎-elim}
-use mathlib.Core.Bool.{Bool, true, false, _&&_}
+use mathlib.Core.Bool.{Bool, true, false}
 use mathlib.Core.List.{List}
 use Rattle.rules.specs.Places.{pick, sum}
 use Rattle.rules.specs.Plan.{Refusal, №, Verdict, fine, refused, Plan, _before_, run}
 use Rattle.rules.specs.Layout.{sps93}
-use Rattle.rules.specs.Sheet.{mostLines}
-use Rattle.rules.specs.Disc.{disc, file}
+use Rattle.rules.specs.Sheet.{Sheet, mostLines}
+use Rattle.rules.specs.Medium.{Medium, sheet}
 use Rattle.rules.specs.Lines.{isData}
 use Rattle.rules.specs.Relations.{reachAt}
 use Rattle.rules.specs.Cover.{traces}
 use Rattle.rules.specs.Check.{Answer, accepted, refusal, trace, channel, highest, noTrace, allTraces, rules, verdict, answer, check}
 use Rattle.rules.specs.Questions.{rule20}
-use Rattle.rules.specs.Lookup.{found, foundBack, lookup, wayBack}
-use Rattle.rules.specs.Spread.{highestOf, rule21, spreadVerdict, spread}
+use Rattle.rules.specs.Lookup.{lookup, wayBack}
+use Rattle.rules.specs.Spread.{rule21, spreadVerdict, spread}
 use Rattle.rules.specs.Hosts.{packed, hostNumber}
 use Rattle.rules.specs.Meets.{Meets}
 use Rattle.rules.specs.Listed.{Listed}
-use Rattle.rules.proofs.Breach.{no-fine}
 use Rattle.rules.proofs.Form.{data-is}
 use Rattle.rules.proofs.Meets.{verdict-meets}
 use Rattle.rules.proofs.Accepted.{sound}
 use Rattle.rules.proofs.Traces.{found-view, back-view, traced-range, back-range}
 use Rattle.rules.proofs.Demand3.{asked-then}
-use Rattle.rules.proofs.Spreads.{spread-fine, few}
+use Rattle.rules.proofs.Spreads.{few}
+use Rattle.rules.proofs.Medium.{Lawful}
 use Rattle.rules.proofs.Listed.{Only, run-only, rules-listed, asked-listed, room-listed}
 use Rattle.rules.proofs.ListedSizes.{listed-within}
 
@@ -102,60 +102,64 @@ unfolding pick
 pick-few true m f = f refl
 pick-few false m f = omega arith
 
-module _ (r s x : List ℕ) where
-  traces-few : Meets (file r) (file s) (file x) → allTraces (file x) < 2 ^ 40
-  unfolding allTraces traces mostLines disc sps93
-  traces-few ok =
-      let n = ok .formX .rule2 in
-      let l =
-      sum-few (file x .count) (λ k. pick (isData (file x) k) (traces (reachAt (file x) k)) 0)
-      (λ k h.
-      pick-few (isData (file x) k) (traces (reachAt (file x) k))
-      (λ e.
-      let w = sound (file r) (file s) (file x) ok k h (data-is (file x) k .0 e) in
-      let a = w .first in
-      let b = w .most in
-      omega arith)) in
-      omega arith
+module _ (M : Medium) (g : Lawful M) where
+  abbrev file : List ℕ → Sheet
+  file = sheet M sps93
 
-  met : run (rules (file r) (file s) (file x)) ≡ fine → Meets (file r) (file s) (file x)
-  unfolding verdict
-  met e = verdict-meets (file r) (file s) (file x) .0 e
+  module _ (r s x : List ℕ) where
+    traces-few : Meets (file r) (file s) (file x) → allTraces (file x) < 2 ^ 40
+    unfolding allTraces traces mostLines sheet sps93
+    traces-few ok =
+        let n = ok .formX .rule2 in
+        let l =
+        sum-few (file x .count) (λ k. pick (isData (file x) k) (traces (reachAt (file x) k)) 0)
+        (λ k h.
+        pick-few (isData (file x) k) (traces (reachAt (file x) k))
+        (λ e.
+        let w = sound (file r) (file s) (file x) ok k h (data-is (file x) k .0 e) in
+        let a = w .first in
+        let b = w .most in
+        omega arith)) in
+        omega arith
 
-  pub check-sized : Sized (check (file r) (file s) (file x))
-  unfolding check verdict
-  check-sized = answer-sized (rules (file r) (file s) (file x)) _ (rules-listed r s x) (λ e. traces-few (met e))
+    met : run (rules (file r) (file s) (file x)) ≡ fine → Meets (file r) (file s) (file x)
+    unfolding verdict
+    met e = verdict-meets (file r) (file s) (file x) .0 e
 
-  -- a question: 20, then the set's own
-  question-sized : (b : Bool) (a : Answer) → (Meets (file r) (file s) (file x) → Sized a)
-      → Sized (answer (run (rule20 b before rules (file r) (file s) (file x))) a)
-  unfolding rule20
-  question-sized b a f =
-      answer-sized (rule20 b before rules (file r) (file s) (file x)) a ((λ _. asked-listed), λ _. rules-listed r s x)
-      (λ e. f (met (asked-then b (rules (file r) (file s) (file x)) (run (rules (file r) (file s) (file x))) refl .0 e .1)))
+    pub check-sized : Sized (check (file r) (file s) (file x))
+    unfolding check verdict
+    check-sized = answer-sized (rules (file r) (file s) (file x)) _ (rules-listed M g r s x) (λ e. traces-few (met e))
 
-  module _ (t : List ℕ) (n : ℕ) where
-    pub lookup-sized : (c : ℕ) → Sized (lookup (file r) (file s) (file x) t n c)
-    unfolding lookup mostLines
-    lookup-sized c =
-        question-sized _ _
-        (λ ok.
-        ⊎-elim
-        (λ w. let v = traced-range (file r) (file s) (file x) ok t n c _ _ (w .2) in subst Sized (sym (w .2)) (v .1))
-        (λ w. subst Sized (sym (w .1)) tt) (found-view (file r) (file x) t n c))
+    -- a question: 20, then the set's own
+    question-sized : (b : Bool) (a : Answer) → (Meets (file r) (file s) (file x) → Sized a)
+        → Sized (answer (run (rule20 b before rules (file r) (file s) (file x))) a)
+    unfolding rule20
+    question-sized b a f =
+        answer-sized (rule20 b before rules (file r) (file s) (file x)) a ((λ _. asked-listed), λ _. rules-listed M g r s x)
+        (λ e. f (met (asked-then b (rules (file r) (file s) (file x)) (run (rules (file r) (file s) (file x))) refl .0 e .1)))
 
-    pub back-sized : (j m : ℕ) → Sized (wayBack (file r) (file s) (file x) t n j m)
-    unfolding wayBack disc sps93
-    back-sized j m =
-        question-sized _ _
-        (λ ok.
-        ⊎-elim
-        (λ w. let v = back-range (file r) (file s) (file x) ok t n _ j m (w .1 .2) in subst Sized (sym (w .1 .2)) v)
-        (λ w. subst Sized (sym (w .1)) tt) (back-view (file r) (file x) t n j m))
+    module _ (t : List ℕ) (n : ℕ) where
+      pub lookup-sized : (c : ℕ) → Sized (lookup (file r) (file s) (file x) t n c)
+      unfolding lookup mostLines
+      lookup-sized c =
+          question-sized _ _
+          (λ ok.
+          ⊎-elim
+          (λ w. let v = traced-range (file r) (file s) (file x) ok t n c _ _ (w .2) in subst Sized (sym (w .2)) (v .1))
+          (λ w. subst Sized (sym (w .1)) tt) (found-view (file r) (file x) t n c))
 
-    pub spread-sized : (a b : ℕ) → Sized (spread (file r) (file s) (file x) t n a b)
-    unfolding spread spreadVerdict rule20 rule21 disc sps93
-    spread-sized a b =
-        answer-sized _ _
-        ((λ _. asked-listed), λ _. (rules-listed r s x, λ _ _. room-listed))
-        (λ e. few (file r) (file s) (file x) t n a b e)
+      pub back-sized : (j m : ℕ) → Sized (wayBack (file r) (file s) (file x) t n j m)
+      unfolding wayBack sheet sps93
+      back-sized j m =
+          question-sized _ _
+          (λ ok.
+          ⊎-elim
+          (λ w. let v = back-range (file r) (file s) (file x) ok t n _ j m (w .1 .2) in subst Sized (sym (w .1 .2)) v)
+          (λ w. subst Sized (sym (w .1)) tt) (back-view (file r) (file x) t n j m))
+
+      pub spread-sized : (a b : ℕ) → Sized (spread (file r) (file s) (file x) t n a b)
+      unfolding spread spreadVerdict rule20 rule21 sheet sps93
+      spread-sized a b =
+          answer-sized _ _
+          ((λ _. asked-listed), λ _. (rules-listed M g r s x, λ _ _. room-listed))
+          (λ e. few (file r) (file s) (file x) t n a b e)

@@ -21,7 +21,10 @@ pub mod Search
 pub mod Accepted
 pub mod Traces
 pub mod Demand3
+pub mod Medium
+pub mod Media
 pub mod Disc
+pub mod Tape
 pub mod Counts
 pub mod Turns
 pub mod Spreads

@@ -1,4 +1,4 @@
--- Every refusal of a disc set is from the published list.
+-- Every refusal of a set is from the published list, whatever its medium.
 --   Only P p       = each refusal that the plan can give is such, where what is looked for before it is met
 --   rules-listed   = the refusals of the set check are listed
 use Prim.Native.Nat.{ℕ, zero, suc, _+_, _*_, _≤_, _<_, min}
@@ -13,11 +13,11 @@ use borrow.Author.Tests.{le-leb, eq-eqb}
 use Rattle.rules.specs.Places.{pick}
 use Rattle.rules.specs.Plan.{Refusal, №, refused, Plan, fileR, fileS, fileX, pass, need, _before_, upTo, when, run}
 use Rattle.rules.specs.Layout.{Span, _to_, letterColumn, sps93}
-use Rattle.rules.specs.Sheet.{mostLines}
-use Rattle.rules.specs.Disc.{byteFits, disc, file}
+use Rattle.rules.specs.Sheet.{Sheet, mostLines, allLines}
+use Rattle.rules.specs.Medium.{Medium, sheet}
 use Rattle.rules.specs.Lines.{isHeader, heads as headCount}
 use Rattle.rules.specs.Rows.{Row, headerRows, pointRows, relationRows}
-use Rattle.rules.specs.Form.{strayFrom, stray, rule1, rule2, rule3, rule4, fieldsFit, rule5, rule6, lineFits, form}
+use Rattle.rules.specs.Form.{strayFrom, stray, ending, rule1, rule2, rule29, rule3, rule4, fieldsFit, rule5, rule6, lineFits, form}
 use Rattle.rules.specs.Headers.{rule7, rule8, sameColumns, rule9}
 use Rattle.rules.specs.Order.{rule10, rule11, rule12, rule13, rule14, rule15, rule16, rule17, rule18, rule19}
 use Rattle.rules.specs.Check.{relationFits, rules}
@@ -25,6 +25,7 @@ use Rattle.rules.specs.Listed.{Entry, row, begins, published, oneOfFiles
 use Rattle.rules.proofs.Tests.{clash, and-is, or-is, leb-is}
 use Rattle.rules.proofs.Breach.{Met, Broken, run-broken}
 use Rattle.rules.proofs.Headers.{heads-few}
+use Rattle.rules.proofs.Medium.{Lawful, ranked-length}
 
 abbrev pub Only : (Refusal → Type 0) → Plan → Type 0
 Only P pass = Unit {0}
@@ -78,175 +79,184 @@ beginsIn cs [] = true
 beginsIn cs (w ∷ ws) = inSpans (w .columns .first) cs && beginsIn cs ws
 
 -- the column of a stray byte
-stray-few : (c : ℕ) (bs : List ℕ) → 1 ≤ c → strayFrom byteFits c bs < c + length bs
+stray-few : (t : ℕ → ℕ → Bool) (c : ℕ) (bs : List ℕ) → 1 ≤ c → strayFrom t c bs < c + length bs
 unfolding strayFrom pick
-stray-few c [] h = omega arith
-stray-few c (b ∷ bs) h = go (byteFits c b) (strayFrom byteFits (suc c) bs) (stray-few (suc c) bs (omega arith))
+stray-few t c [] h = omega arith
+stray-few t c (b ∷ bs) h = go (t c b) (strayFrom t (suc c) bs) (stray-few t (suc c) bs (omega arith))
   where
     go : (t : Bool) (m : ℕ) → m < suc c + length bs → pick t m c < c + suc (length bs)
     go true m l = omega arith
     go false m l = omega arith
 
--- the form of file i, whose columns of 5 are cs
-module _ (i : ℕ) (cs : List Span) (own : oneOfFiles i (fileR ∷ fileS ∷ fileX ∷ []) ≡ true)
-    (five : (l c : ℕ) → 1 ≤ l → l ≤ 9999 → inSpans c cs ≡ true → Listed (№ 5 i l c))
-    (heads : beginsIn cs (headerRows sps93) ≡ true)
-    (points : (eqb i fileX ≡ true → ⊥) → beginsIn cs (pointRows sps93 i) ≡ true)
-    (relations : eqb i fileX ≡ true → beginsIn cs (relationRows sps93) ≡ true) where
-  module _ (k : ℕ) (line : k + 1 ≤ 9999) where
-    fields-listed : (marker : Bool) (l : List ℕ) (ws : List Row) → beginsIn cs ws ≡ true → Only Listed (fieldsFit i k marker l ws)
-    unfolding fieldsFit
-    fields-listed marker l [] e = tt
-    fields-listed marker l (w ∷ ws) e =
-        let b = and-is (inSpans (w .columns .first) cs) (beginsIn cs ws) .0 e in
-        ((λ _ _. five (k + 1) (w .columns .first) (omega arith) line (b .0)), λ _. fields-listed marker l ws (b .1))
+module _ (M : Medium) (g : Lawful M) where
+  abbrev file : List ℕ → Sheet
+  file = sheet M sps93
 
-    rule5-listed : (l : List ℕ) → Only Listed (rule5 i sps93 k l)
-    unfolding rule5
-    rule5-listed l = (
-      (λ _. fields-listed false l _ heads),
-      λ _. (
-        (λ t. fields-listed _ l _ (points (λ e. clash (sym (ap not e) ∙ and-is (not (isHeader l)) (not (eqb i fileX)) .0 t .1)))),
-        λ _ t. fields-listed false l _ (relations (and-is (not (isHeader l)) (eqb i fileX) .0 t .1)),
-      ),
-    )
+  -- the form of file i, whose columns of 5 are cs
+  module _ (i : ℕ) (cs : List Span) (own : oneOfFiles i (fileR ∷ fileS ∷ fileX ∷ []) ≡ true)
+      (five : (l c : ℕ) → 1 ≤ l → l ≤ 9999 → inSpans c cs ≡ true → Listed (№ 5 i l c))
+      (heads : beginsIn cs (headerRows sps93) ≡ true)
+      (points : (eqb i fileX ≡ true → ⊥) → beginsIn cs (pointRows sps93 i) ≡ true)
+      (relations : eqb i fileX ≡ true → beginsIn cs (relationRows sps93) ≡ true) where
+    module _ (k : ℕ) (line : k + 1 ≤ 9999) where
+      fields-listed : (marker : Bool) (l : List ℕ) (ws : List Row) → beginsIn cs ws ≡ true → Only Listed (fieldsFit i k marker l ws)
+      unfolding fieldsFit
+      fields-listed marker l [] e = tt
+      fields-listed marker l (w ∷ ws) e =
+          let b = and-is (inSpans (w .columns .first) cs) (beginsIn cs ws) .0 e in
+          ((λ _ _. five (k + 1) (w .columns .first) (omega arith) line (b .0)), λ _. fields-listed marker l ws (b .1))
 
-    line-listed : (f : List ℕ) → Only Listed (lineFits i (file f) k)
-    unfolding lineFits rule3 rule4 rule6 stray disc sps93 published oneOfFiles inSpans inSpan
-    line-listed f =
-        let n = length-take 82 (drop (82 * k) f) in
-        let c = strayFrom byteFits 1 (take 82 (drop (82 * k) f)) in
-        let few = stray-few 1 (take 82 (drop (82 * k) f)) (omega arith) in (
-          λ z.
-              let nz : c ≡ 0 → ⊥ = λ e. z (eq-eqb c 0 e) in
-              listed-at i (k + 1) c 2 own (omega arith) line (or-is (inSpan c (1 to 82)) false .1 (inl (span-is c (1 to 82) (omega arith) (omega arith)))),
-          λ _. (
-            (λ _. listed-at i (k + 1) letterColumn 3 own (omega arith) line refl),
+      rule5-listed : (l : List ℕ) → Only Listed (rule5 i sps93 k l)
+      unfolding rule5
+      rule5-listed l = (
+        (λ _. fields-listed false l _ heads),
+        λ _. (
+          (λ t. fields-listed _ l _ (points (λ e. clash (sym (ap not e) ∙ and-is (not (isHeader l)) (not (eqb i fileX)) .0 t .1)))),
+          λ _ t. fields-listed false l _ (relations (and-is (not (isHeader l)) (eqb i fileX) .0 t .1)),
+        ),
+      )
+
+      line-listed : (f : List ℕ) → Only Listed (lineFits i (file f) k)
+      unfolding lineFits rule3 rule4 rule6 stray sheet sps93 published oneOfFiles inSpans inSpan
+      line-listed f =
+          let n = length-take (M .stride) (drop (M .stride * k) f) in
+          let wide = g .wide in
+          let c = strayFrom (M .takes) 1 (take (M .stride) (drop (M .stride * k) f)) in
+          let few = stray-few (M .takes) 1 (take (M .stride) (drop (M .stride * k) f)) (omega arith) in (
+            λ z.
+                let nz : c ≡ 0 → ⊥ = λ e. z (eq-eqb c 0 e) in
+                listed-at i (k + 1) c 2 own (omega arith) line (or-is (inSpan c (1 to 82)) false .1 (inl (span-is c (1 to 82) (omega arith) (omega arith)))),
             λ _. (
-              rule5-listed _,
-              λ _ _. (
-                (λ _. listed-at 3 (k + 1) 39 6 refl (omega arith) line refl),
-                λ _. (
-                  (λ _. listed-at 3 (k + 1) 64 6 refl (omega arith) line refl),
-                  λ _. ((λ _. listed-at 3 (k + 1) 47 6 refl (omega arith) line refl), λ _ _. listed-at 3 (k + 1) 72 6 refl (omega arith) line refl),
+              (λ _. listed-at i (k + 1) letterColumn 3 own (omega arith) line refl),
+              λ _. (
+                rule5-listed _,
+                λ _ _. (
+                  (λ _. listed-at 3 (k + 1) 39 6 refl (omega arith) line refl),
+                  λ _. (
+                    (λ _. listed-at 3 (k + 1) 64 6 refl (omega arith) line refl),
+                    λ _. ((λ _. listed-at 3 (k + 1) 47 6 refl (omega arith) line refl), λ _ _. listed-at 3 (k + 1) 72 6 refl (omega arith) line refl),
+                  ),
                 ),
               ),
             ),
-          ),
-        )
+          )
 
-  form-listed : (f : List ℕ) → Only Listed (form i (file f))
-  unfolding form rule1 rule2 mostLines published inSpans inSpan
-  form-listed f = (
-    (λ _. listed-at i (min (file f .count + 1) (9999 + 1)) 0 0 own (omega arith) (omega arith) refl),
+    form-listed : (f : List ℕ) → Only Listed (form i (file f))
+    unfolding form rule1 rule2 rule29 mostLines published inSpans inSpan
+    form-listed f = (
+      (λ _. listed-at i (min (allLines (file f) + 1) (9999 + 1)) 0 0 own (omega arith) (omega arith) refl),
+      λ _. (
+        (λ _. listed-at i (9999 + 1) 0 1 own (omega arith) (omega arith) refl),
+        λ m.
+            let n = leb-is (allLines (file f)) 9999 .0 m in (
+              (λ _. listed-at i (min (ending (file f) + 2) (allLines (file f) + 1)) 0 22 own (omega arith) (omega arith) refl),
+              λ _ k o. line-listed k (omega arith) f,
+            ),
+      ),
+    )
+
+  lines-few : (i : ℕ) (f : List ℕ) → Met (form i (file f)) → file f .count ≤ 9999
+  unfolding form rule2 mostLines
+  lines-few i f m = let n = leb-is (allLines (file f)) 9999 .0 (m .1 .0) in omega arith
+
+  nine : (i k c : ℕ) → oneOfFiles i (fileS ∷ fileX ∷ []) ≡ true → k + 1 ≤ 10000 → c ≤ 80 → Listed (№ 9 i (k + 1) c)
+  unfolding published inSpans
+  nine i k c o h l = listed-at i (k + 1) c 9 o (omega arith) h (or-is (inSpan c (0 to 80)) false .1 (inl (span-is c (0 to 80) (omega arith) l)))
+
+  -- the columns of 9
+  columns-listed : (i k c : ℕ) (bs ds : List ℕ) → oneOfFiles i (fileS ∷ fileX ∷ []) ≡ true → k + 1 ≤ 9999 → c + length bs ≤ 81 → c + length ds ≤ 81
+      → Only Listed (sameColumns i k c bs ds)
+  unfolding sameColumns
+  columns-listed i k c [] [] o h g e = tt
+  columns-listed i k c [] (d ∷ ds) o h g e = λ _. nine i k c o (omega arith) (omega arith)
+  columns-listed i k c (b ∷ bs) [] o h g e = λ _. nine i k c o (omega arith) (omega arith)
+  columns-listed i k c (b ∷ bs) (d ∷ ds) o h g e =
+      ((λ _. nine i k c o (omega arith) (omega arith)), λ _. columns-listed i k (suc c) bs ds o h (omega arith) (omega arith))
+
+  rule9-listed : (i : ℕ) → oneOfFiles i (fileS ∷ fileX ∷ []) ≡ true → (r f : List ℕ) → file r .count ≤ 9999 → Only Listed (rule9 i (file r) (file f))
+  unfolding rule9 sheet
+  rule9-listed i o r f n =
+      let a = heads-few (file r) in (
+        λ k h.
+            let u = ranked-length (M .charOf) (take 80 (drop (M .stride * k) r)) ∙ length-take 80 (drop (M .stride * k) r) in
+            let v = ranked-length (M .charOf) (take 80 (drop (M .stride * k) f)) ∙ length-take 80 (drop (M .stride * k) f) in
+            columns-listed i k 1 _ _ o (omega arith) (omega arith) (omega arith),
+        λ _ _. nine i (min (headCount (file r)) (headCount (file f))) 0 o (omega arith) (omega arith),
+      )
+
+  -- the rules of a relation line
+  relation-listed : (r s x : List ℕ) (k : ℕ) → k + 1 ≤ 9999 → Only Listed (relationFits (file r) (file s) (file x) k)
+  unfolding relationFits rule13 rule14 rule16 rule17 rule18 rule19 sheet sps93 published oneOfFiles inSpans inSpan
+  relation-listed r s x k h _ = (
+    (λ _. listed-at 3 (k + 1) 14 13 refl (omega arith) h refl),
     λ _. (
-      (λ _. listed-at i (9999 + 1) 0 1 own (omega arith) (omega arith) refl),
-      λ m k o. let n = leb-is (file f .count) 9999 .0 m in line-listed k (omega arith) f,
+      (λ _. listed-at 3 (k + 1) 14 14 refl (omega arith) h refl),
+      λ _. (
+        (λ _. listed-at 3 (k + 1) 2 16 refl (omega arith) h refl),
+        λ _. (
+          (λ _. listed-at 3 (k + 1) 39 17 refl (omega arith) h refl),
+          λ _. ((λ _. listed-at 3 (k + 1) 64 18 refl (omega arith) h refl), λ _ _. listed-at 3 (k + 1) 64 19 refl (omega arith) h refl),
+        ),
+      ),
     ),
   )
 
-lines-few : (i : ℕ) (f : List ℕ) → Met (form i (file f)) → file f .count ≤ 9999
-unfolding form rule2 mostLines
-lines-few i f m = leb-is (file f .count) 9999 .0 (m .1 .0)
+  -- the form of each file, with the columns of its tables
+  module _ (f : List ℕ) where
+    points-listed : (i : ℕ) → (i ≡ fileR) ⊎ (i ≡ fileS) → Only Listed (form i (file f))
+    unfolding published begins headerRows pointRows sps93 oneOfFiles inSpans inSpan
+    points-listed i (inl e) =
+        rw e
+        (form-listed fileR (entry published 4 .columns) refl (λ l c a b d. listed-at fileR l c 4 refl a b d) refl (λ _. refl) (λ t. clash t) f)
+    points-listed i (inr e) =
+        rw e
+        (form-listed fileS (entry published 4 .columns) refl (λ l c a b d. listed-at fileS l c 4 refl a b d) refl (λ _. refl) (λ t. clash t) f)
 
-nine : (i k c : ℕ) → oneOfFiles i (fileS ∷ fileX ∷ []) ≡ true → k + 1 ≤ 10000 → c ≤ 80 → Listed (№ 9 i (k + 1) c)
-unfolding published inSpans
-nine i k c o h l = listed-at i (k + 1) c 9 o (omega arith) h (or-is (inSpan c (0 to 80)) false .1 (inl (span-is c (0 to 80) (omega arith) l)))
+    relations-listed : Only Listed (form fileX (file f))
+    unfolding published begins headerRows relationRows sps93 oneOfFiles inSpans inSpan
+    relations-listed =
+        form-listed fileX (entry published 5 .columns) refl (λ l c a b d. listed-at fileX l c 5 refl a b d) refl (λ n. absurd (n refl)) (λ _. refl) f
 
--- the columns of 9
-columns-listed : (i k c : ℕ) (bs ds : List ℕ) → oneOfFiles i (fileS ∷ fileX ∷ []) ≡ true → k + 1 ≤ 9999 → c + length bs ≤ 81 → c + length ds ≤ 81
-    → Only Listed (sameColumns i k c bs ds)
-unfolding sameColumns
-columns-listed i k c [] [] o h g e = tt
-columns-listed i k c [] (d ∷ ds) o h g e = λ _. nine i k c o (omega arith) (omega arith)
-columns-listed i k c (b ∷ bs) [] o h g e = λ _. nine i k c o (omega arith) (omega arith)
-columns-listed i k c (b ∷ bs) (d ∷ ds) o h g e =
-    ((λ _. nine i k c o (omega arith) (omega arith)), λ _. columns-listed i k (suc c) bs ds o h (omega arith) (omega arith))
-
-rule9-listed : (i : ℕ) → oneOfFiles i (fileS ∷ fileX ∷ []) ≡ true → (r f : List ℕ) → file r .count ≤ 9999 → Only Listed (rule9 i (file r) (file f))
-unfolding rule9 disc
-rule9-listed i o r f n =
-    let a = heads-few (file r) in (
-      λ k h.
-          let u = length-take 80 (drop (82 * k) r) in
-          let v = length-take 80 (drop (82 * k) f) in
-          columns-listed i k 1 _ _ o (omega arith) (omega arith) (omega arith),
-      λ _ _. nine i (min (headCount (file r)) (headCount (file f))) 0 o (omega arith) (omega arith),
-    )
-
--- the rules of a relation line
-relation-listed : (r s x : List ℕ) (k : ℕ) → k + 1 ≤ 9999 → Only Listed (relationFits (file r) (file s) (file x) k)
-unfolding relationFits rule13 rule14 rule16 rule17 rule18 rule19 disc sps93 published oneOfFiles inSpans inSpan
-relation-listed r s x k h _ = (
-  (λ _. listed-at 3 (k + 1) 14 13 refl (omega arith) h refl),
-  λ _. (
-    (λ _. listed-at 3 (k + 1) 14 14 refl (omega arith) h refl),
-    λ _. (
-      (λ _. listed-at 3 (k + 1) 2 16 refl (omega arith) h refl),
-      λ _. (
-        (λ _. listed-at 3 (k + 1) 39 17 refl (omega arith) h refl),
-        λ _. ((λ _. listed-at 3 (k + 1) 64 18 refl (omega arith) h refl), λ _ _. listed-at 3 (k + 1) 64 19 refl (omega arith) h refl),
-      ),
-    ),
-  ),
-)
-
--- the form of each file, with the columns of its tables
-module _ (f : List ℕ) where
-  points-listed : (i : ℕ) → (i ≡ fileR) ⊎ (i ≡ fileS) → Only Listed (form i (file f))
-  unfolding published begins headerRows pointRows sps93 oneOfFiles inSpans inSpan
-  points-listed i (inl e) =
-      rw e
-      (form-listed fileR (entry published 4 .columns) refl (λ l c a b d. listed-at fileR l c 4 refl a b d) refl (λ _. refl) (λ t. clash t) f)
-  points-listed i (inr e) =
-      rw e
-      (form-listed fileS (entry published 4 .columns) refl (λ l c a b d. listed-at fileS l c 4 refl a b d) refl (λ _. refl) (λ t. clash t) f)
-
-  relations-listed : Only Listed (form fileX (file f))
-  unfolding published begins headerRows relationRows sps93 oneOfFiles inSpans inSpan
-  relations-listed =
-      form-listed fileX (entry published 5 .columns) refl (λ l c a b d. listed-at fileX l c 5 refl a b d) refl (λ n. absurd (n refl)) (λ _. refl) f
-
-pub rules-listed : (r s x : List ℕ) → Only Listed (rules (file r) (file s) (file x))
-unfolding rules rule7 rule8 rule10 rule11 rule12 rule15 disc sps93 published oneOfFiles inSpans inSpan
-rules-listed r s x = (
-  points-listed r fileR (inl refl),
-  λ mr. (
-    points-listed s fileS (inr refl),
-    λ ms. (
-      relations-listed x,
-      λ mx.
-          let a = lines-few 1 r mr in
-          let b = lines-few 2 s ms in
-          let c = lines-few 3 x mx in
-          let d = heads-few (file r) in (
-            (λ _. listed-at 1 (headCount (file r) + 1) 0 7 refl (omega arith) (omega arith) refl),
-            λ _. (
-              (λ k o _ _. listed-at 1 (k + 1) 33 8 refl (omega arith) (omega arith) refl),
+  pub rules-listed : (r s x : List ℕ) → Only Listed (rules (file r) (file s) (file x))
+  unfolding rules rule7 rule8 rule10 rule11 rule12 rule15 sheet sps93 published oneOfFiles inSpans inSpan
+  rules-listed r s x = (
+    points-listed r fileR (inl refl),
+    λ mr. (
+      points-listed s fileS (inr refl),
+      λ ms. (
+        relations-listed x,
+        λ mx.
+            let a = lines-few 1 r mr in
+            let b = lines-few 2 s ms in
+            let c = lines-few 3 x mx in
+            let d = heads-few (file r) in (
+              (λ _. listed-at 1 (headCount (file r) + 1) 0 7 refl (omega arith) (omega arith) refl),
               λ _. (
-                rule9-listed 2 refl r s a,
+                (λ k o _ _. listed-at 1 (k + 1) 33 8 refl (omega arith) (omega arith) refl),
                 λ _. (
-                  rule9-listed 3 refl r x a,
+                  rule9-listed 2 refl r s a,
                   λ _. (
-                    (λ k o _ _. listed-at 1 (k + 1) 2 10 refl (omega arith) (omega arith) refl),
+                    rule9-listed 3 refl r x a,
                     λ _. (
-                      (λ k o. (
-                        (λ _ _. listed-at 2 (k + 1) 72 11 refl (omega arith) (omega arith) refl),
-                        λ _ _ _. listed-at 2 (k + 1) 2 12 refl (omega arith) (omega arith) refl,
-                      )),
+                      (λ k o _ _. listed-at 1 (k + 1) 2 10 refl (omega arith) (omega arith) refl),
                       λ _. (
-                        (λ k o. relation-listed r s x k (omega arith)),
-                        λ _ k o _ _. listed-at 2 (k + 1) 1 15 refl (omega arith) (omega arith) refl,
+                        (λ k o. (
+                          (λ _ _. listed-at 2 (k + 1) 72 11 refl (omega arith) (omega arith) refl),
+                          λ _ _ _. listed-at 2 (k + 1) 2 12 refl (omega arith) (omega arith) refl,
+                        )),
+                        λ _. (
+                          (λ k o. relation-listed r s x k (omega arith)),
+                          λ _ k o _ _. listed-at 2 (k + 1) 1 15 refl (omega arith) (omega arith) refl,
+                        ),
                       ),
                     ),
                   ),
                 ),
               ),
             ),
-          ),
+      ),
     ),
-  ),
-)
+  )
 
 -- 20 and 21
 pub asked-listed : Listed (№ 20 0 0 0)

@@ -25,10 +25,10 @@ columnsWithin (s ∷ ss) = leb (s .last) 82 && columnsWithin ss
 abbrev within : List Entry → Bool
 within [] = true
 within (e ∷ es) =
-    (leb 1 (e .number) && leb (e .number) 21) && (filesWithin (e .files) && (leb (e .lines .last) 10000 && (columnsWithin (e .columns) && within es)))
+    (leb 1 (e .number) && leb (e .number) 29) && (filesWithin (e .files) && (leb (e .lines .last) 10000 && (columnsWithin (e .columns) && within es)))
 
 abbrev pub Sizes : ℕ → ℕ → ℕ → ℕ → Type 0
-Sizes n f l c = ((1 ≤ n) × (n ≤ 21)) × ((f ≤ 3) × ((l ≤ 10000) × (c ≤ 82)))
+Sizes n f l c = ((1 ≤ n) × (n ≤ 29)) × ((f ≤ 3) × ((l ≤ 10000) × (c ≤ 82)))
 
 file-within : (f : ℕ) (fs : List ℕ) → filesWithin fs ≡ true → oneOfFiles f fs ≡ true → f ≤ 3
 unfolding oneOfFiles
@@ -65,7 +65,7 @@ entry-within (d ∷ es) n f l c w e =
     let k = and-is _ _ .0 (b .1) in
     let no = eqb-true (d .number) n (a .0) in
     let low = leb-is 1 (d .number) .0 (z .0) in
-    let high = leb-is (d .number) 21 .0 (z .1) in
+    let high = leb-is (d .number) 29 .0 (z .1) in
     let last = leb-is (d .lines .last) 10000 .0 (p .0) in
     let line = leb-is l (d .lines .last) .0 (and-is (leb (d .lines .first) l) (leb l (d .lines .last)) .0 (k .0) .1) in (
       (omega arith, omega arith),

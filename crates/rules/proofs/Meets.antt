@@ -20,12 +20,13 @@ form-kept i f = (
       record {
         rule1 = t .0;
         rule2 = t .1 .0;
-        rule3 = λ k h. t .1 .1 k h .0;
-        rule4 = λ k h. t .1 .1 k h .1 .0;
-        rule5 = λ k h. t .1 .1 k h .1 .1 .0;
-        rule6 = λ k h. t .1 .1 k h .1 .1 .1;
+        rule29 = t .1 .1 .0;
+        rule3 = λ k h. t .1 .1 .1 k h .0;
+        rule4 = λ k h. t .1 .1 .1 k h .1 .0;
+        rule5 = λ k h. t .1 .1 .1 k h .1 .1 .0;
+        rule6 = λ k h. t .1 .1 .1 k h .1 .1 .1;
       },
-  λ w. (w .rule1, (w .rule2, λ k h. (w .rule3 k h, (w .rule4 k h, (w .rule5 k h, w .rule6 k h))))),
+  λ w. (w .rule1, (w .rule2, (w .rule29, λ k h. (w .rule3 k h, (w .rule4 k h, (w .rule5 k h, w .rule6 k h)))))),
 )
 
 pub form-is : (i : ℕ) (f : Sheet) → Met (form i f) ↔ Formed i f

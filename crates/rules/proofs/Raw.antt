@@ -1,21 +1,78 @@
--- The tests of refusal 3, which the medium's own bytes break, say what `MeetsForm` has in words, and fail where its breaches are.
-use Prim.Native.Nat.{ℕ, zero, suc, _+_, _-_, _≤_, _<_}
+-- The tests of refusals 29 and 3, which the medium's own bytes break, say what `MeetsForm` has in words, and fail where its breaches are.
+use Prim.Native.Nat.{ℕ, zero, suc, _+_, _-_, _≤_, _<_, min}
 use native.Mathlib.Nat.{not-suc-le-zero}
 use native.Mathlib.Omega.{arith}
 use mathlib.Core.Path.{_≡_, refl, sym, ap, _∙_, subst}
-use mathlib.Core.Logic.{_↔_, Iff·trans}
-use mathlib.Core.Bool.{Bool, true, not}
+use mathlib.Core.Logic.{_↔_, _⊎_, inl, inr, ⊎-elim, Iff·trans}
+use mathlib.Core.Bool.{Bool, true}
 use mathlib.Core.List.{List, [], _∷_}
 use lib.ListN.{length, getD}
 use Rattle.rules.specs.Plan.{Refusal, №}
 use Rattle.rules.specs.Text.{col}
 use Rattle.rules.specs.Layout.{at}
-use Rattle.rules.specs.Sheet.{Sheet}
-use Rattle.rules.specs.Form.{strayFrom, stray, rule3}
+use Rattle.rules.specs.Sheet.{Sheet, allLines}
+use Rattle.rules.specs.Form.{ending, rule29, strayFrom, stray, rule3}
 use Rattle.rules.specs.MeetsForm.{Taken, Rule3, Breach3}
-use Rattle.rules.specs.Refuses.{inColumn}
+use Rattle.rules.specs.MeetsForm.{FirstEnd, NoEnd, Rule29, Breach29}
+use Rattle.rules.specs.Refuses.{by, inColumn}
 use Rattle.rules.proofs.Tests.{yes-no, pick-is, eqb-is}
+use Rattle.rules.proofs.Contrary.{contrary}
+use Rattle.rules.proofs.Least.{least-is, least-first, least-none}
 use Rattle.rules.proofs.Breach.{Met, Broken}
+
+-- 29
+module _ (i : ℕ) (f : Sheet) where
+  ending-view : ((ending f < allLines f) × FirstEnd f (ending f)) ⊎ ((ending f ≡ allLines f) × NoEnd f)
+  unfolding ending
+  ending-view = ⊎-elim (λ w. inl (w .0, (w .0, w .1, w .2))) (λ w. inr w) (least-is (allLines f) (f .ends))
+
+  ending-one : (e : ℕ) → FirstEnd f e → ending f ≡ e
+  unfolding ending
+  ending-one e w = least-first (allLines f) e (f .ends) w
+
+  ending-none : NoEnd f → ending f ≡ allLines f
+  unfolding ending
+  ending-none n = least-none (allLines f) (f .ends) n
+
+  pub rule29-is : Met (rule29 i f) ↔ Rule29 f
+  unfolding rule29
+  rule29-is = (
+    λ m.
+        let e = eqb-is (ending f + f .closing) (allLines f) .0 m in
+        ⊎-elim (λ w. inl (ending f, w .1, e)) (λ w. let z = w .0 in inr (w .1, omega arith)) ending-view,
+    λ r.
+        eqb-is (ending f + f .closing) (allLines f) .1
+        (⊎-elim (λ w. ap (λ (n : ℕ). n + f .closing) (ending-one (w .0) (w .1)) ∙ w .2)
+        (λ w. let z = ending-none (w .0) in let c = w .1 in omega arith) r),
+  )
+
+  pub rule29-breaks : (w : Refusal) → Broken w (rule29 i f) ↔ ((l : ℕ) × by (Breach29 f l) (№ 29 i l 0) w)
+  unfolding rule29 Broken
+  rule29-breaks w =
+      let n = contrary (eqb-is (ending f + f .closing) (allLines f)) in
+      let at : (l : ℕ) → min (ending f + 2) (allLines f + 1) ≡ l → № 29 i (min (ending f + 2) (allLines f + 1)) 0 ≡ № 29 i l 0 =
+      λ l e. ap (λ (m : ℕ). № 29 i m 0) e in (
+        λ b.
+            let ne = n .0 (b .0) in
+            ⊎-elim (λ v. let h = v .0 in (ending f + 2, (inl (ending f, v .1, ne, refl), sym (at (ending f + 2) (omega arith)) ∙ b .1)))
+            (λ v.
+            let z = v .0 in
+            (allLines f + 1, (inr (v .1, (λ c. ne (omega arith)), refl), sym (at (allLines f + 1) (omega arith)) ∙ b .1)))
+            ending-view,
+        λ b.
+            let l = b .0 in
+            ⊎-elim
+            (λ v.
+            let q = ending-one (v .0) (v .1) in
+            let h = v .1 .0 in
+            let e = v .3 in
+            (n .1 (λ y. v .2 (ap (λ (m : ℕ). m + f .closing) (sym q) ∙ y)), at l (omega arith) ∙ b .1 .1))
+            (λ v.
+            let q = ending-none (v .0) in
+            let e = v .2 in
+            (n .1 (λ y. v .1 (omega arith)), at l (omega arith) ∙ b .1 .1))
+            (b .1 .0),
+      )
 
 -- 3
 module _ (takes : ℕ → ℕ → Bool) where

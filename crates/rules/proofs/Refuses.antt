@@ -8,7 +8,7 @@ use mathlib.Core.Bool.{Bool, true, not, _&&_, _||_}
 use lib.Dec.{eqb, leb}
 use Rattle.rules.specs.Places.{ifBefore}
 use Rattle.rules.specs.Plan.{Refusal, №, Plan, fileR, fileS, fileX, need, _before_, upTo, when}
-use Rattle.rules.specs.Sheet.{Sheet, mostLines}
+use Rattle.rules.specs.Sheet.{Sheet, mostLines, allLines}
 use Rattle.rules.specs.Lines.{isHeader, isData, heads}
 use Rattle.rules.specs.Relations.{Relation, reach, relationAt, reachAt}
 use Rattle.rules.specs.Form.{rule1, rule2, rule6, lineFits, form}
@@ -27,6 +27,7 @@ use Rattle.rules.proofs.Breach.{Met, Broken}
 use Rattle.rules.proofs.Form.{header-is, data-is, need-breaks, rule4-is}
 use Rattle.rules.proofs.Raw.{rule3-is, rule3-breaks}
 use Rattle.rules.proofs.Form.{rule4-breaks, rule5-is, rule5-breaks, rule6-is, rule6-breaks}
+use Rattle.rules.proofs.Raw.{rule29-is, rule29-breaks}
 use Rattle.rules.proofs.Headers.{in-header, heads-few, rule7-is, rule7-breaks, rule8-is, rule8-breaks, rule9-is, rule9-breaks}
 use Rattle.rules.proofs.Order.{point-at-is, rule10-at, rule10-breaks, rule11-is, rule11-breaks, rule12-is, rule12-breaks, rule13-is, rule13-breaks}
 use Rattle.rules.proofs.Order.{rule15-is, rule15-breaks, rule16-is, rule16-breaks, rule17-is, rule17-breaks, receivers-there, receivers-missing}
@@ -68,8 +69,10 @@ module _ (i : ℕ) (f : Sheet) where
       let left = eqb-is (f .left) 0 in
       same-then (same-look left (need-breaks _ _ (contrary left)))
       (λ _.
-      same-then (same-look (leb-is (f .count) mostLines) (need-breaks _ _ (not-leb (f .count) mostLines)))
-      (λ _. same-lines (f .count) (lineFits i f) (lineOrder i f) (λ k h _. line-same k)))
+      same-then (same-look (leb-is (allLines f) mostLines) (need-breaks _ _ (not-leb (allLines f) mostLines)))
+      (λ _.
+      same-then (same-look (rule29-is i f) (rule29-breaks i f))
+      (λ _. same-lines (f .count) (lineFits i f) (lineOrder i f) (λ k h _. line-same k))))
 
 -- a shot stands in one line, which is shotLine
 module _ (s : Sheet) (rule12 : (k : ℕ) → k < s .count → Rule12 s k) where

@@ -1,4 +1,4 @@
--- "The (p) cases form a single proved table over the rules as defined": each row marked (p), on set A built from its description.
+-- "The (p) cases form a single proved table over the rules as defined": each row marked (p), on set A built from its description; then tapes.
 use Prim.Native.Nat.{ℕ}
 use mathlib.Core.Path.{_≡_, refl}
 use mathlib.Core.List.{List, [], _∷_, _++_}
@@ -9,7 +9,9 @@ use Rattle.rules.specs.Numbers
 use Rattle.rules.specs.Kinds
 use Rattle.rules.specs.Layout
 use Rattle.rules.specs.Sheet
+use Rattle.rules.specs.Medium
 use Rattle.rules.specs.Disc
+use Rattle.rules.specs.Tape
 use Rattle.rules.specs.Names
 use Rattle.rules.specs.Lines
 use Rattle.rules.specs.Points
@@ -30,7 +32,10 @@ use Rattle.rules.specs.Disc.{file}
 use Rattle.rules.specs.Plan.{№, fileR, fileX}
 use Rattle.rules.specs.Check.{Answer, accepted, refusal, trace, noTrace, check}
 use Rattle.rules.specs.Lookup.{lookup}
-use Rattle.rules.specs.SetA.{rOf, xOf, rA, sA, xA, lineA, relationLine}
+use Rattle.rules.specs.Layout.{sps93}
+use Rattle.rules.specs.Medium.{sheet}
+use Rattle.rules.specs.Tape.{tape}
+use Rattle.rules.specs.SetA.{headers, pointLine, rOf, xOf, rA, sA, xA, lineA, relationLine, eof, tapeOf}
 
 abbrev checkA : List ℕ → List ℕ → List ℕ → Answer
 checkA r s x = check (file r) (file s) (file x)
@@ -40,6 +45,17 @@ lookupA x n c = lookup (file rA) (file sA) (file x) (bytes "100   ") n c
 
 abbrev xThree : List ℕ
 xThree = xOf (relationLine "     501" "   1   93" "L1" "     101     103")
+
+-- the same on tape, with records after the EOF of X
+abbrev checkTape : List ℕ → List ℕ → List ℕ → List ℕ → Answer
+checkTape r s x after = check (sheet tape sps93 (tapeOf r)) (sheet tape sps93 (tapeOf s)) (sheet tape sps93 (tapeOf x ++ after))
+
+-- two names whose order differs between the codes
+abbrev rNames : List ℕ
+rNames = headers ++ (pointLine "R" "1A" "     101" "G1" ++ pointLine "R" "A1" "     102" "G1")
+
+abbrev xNames : List ℕ
+xNames = xOf (relationLine "     501" "   1   11" "1A" "     101     101")
 
 pub table :
     lookupA xA 11 2
@@ -54,7 +70,11 @@ pub table :
     (xOf (relationLine "     501" "   1   31" "11  2" "     101     103"))
     ∷ checkA rA sA (xOf (relationLine "00000501" "   1   31" "L1" "     101     103"))
     ∷ checkA rA sA (xOf (lineA ++ relationLine "     501" "   3   31" "L1" "     103     103"))
-    ∷ checkA rA sA (xOf (lineA ++ relationLine "     501" "   4   41" "L1" "     103     103")) ∷ []
+    ∷ checkA rA sA (xOf (lineA ++ relationLine "     501" "   4   41" "L1" "     103     103"))
+    ∷ checkA rNames sA xNames
+    ∷ checkTape rA sA xA []
+    ∷ checkTape rA sA xA eof
+    ∷ checkTape rNames sA xNames [] ∷ []
     ≡ trace 23 1
     ∷ noTrace
     ∷ accepted 3 1 1 9
@@ -66,13 +86,17 @@ pub table :
     ∷ refusal (№ 18 fileX 22 64)
     ∷ accepted 3 1 1 3
     ∷ refusal (№ 17 fileX 23 39)
-    ∷ refusal (№ 19 fileX 23 64) ∷ []
+    ∷ refusal (№ 19 fileX 23 64)
+    ∷ accepted 2 1 1 1
+    ∷ accepted 3 1 1 3
+    ∷ refusal (№ 29 fileX 24 0)
+    ∷ refusal (№ 10 fileR 23 2) ∷ []
 unfolding Places.pick Places.every Places.some Places.least Places.count Places.sum Places.greatest Places.ifBefore Places.isBefore Places.ofLast
     Plan._orElse_ Plan.firstOf Plan.run Text.col Text.front Text.cols Text.same Text.less Text.blank Text.bytes Text.oneOf Numbers.digit
     Numbers.digitsAfter Numbers.digits Numbers.whole Numbers.justified Numbers.negative Numbers.minusOr Numbers.signed Numbers.then Numbers.decimal
     Numbers.size Numbers.value Kinds.formed Kinds.between Kinds.within Kinds.allDigits Kinds.digit1 Kinds.indexOf Kinds.family Kinds.isCode
-    Kinds.water Kinds.isTime Kinds.fits Layout.sps93 Layout.at Sheet.mostLines Disc.printable Disc.byteFits Form.strayFrom Form.stray Disc.disc
-    Names.sameName Names.ranked Names.lessName Lines.letter Lines.isHeader Lines.isMarker Lines.isData Lines.isPoint Lines.heads Points.holds
+    Kinds.water Kinds.isTime Kinds.fits Layout.sps93 Layout.at Sheet.mostLines Disc.printable Disc.byteFits Form.strayFrom Form.stray Form.ending Form.rule29
+    Medium.sheet Disc.disc Tape.page Tape.charIn Tape.placeOf Tape.byteIn Tape.tape Names.sameName Names.ranked Names.lessName Lines.letter Lines.isHeader Lines.isMarker Lines.isData Lines.isPoint Lines.heads Points.holds
     Points.nameOf Points.numberOf Points.indexAt Points.point Points.pointAt Points.isAt Points.samePoint Relations.reach Relations.relation
     Relations.reachAt Relations.relationAt Cover.traces Cover.carries Cover.receivers Cover.receiverOn Cover.covers Cover.leads Cover.component
     Cover.channelOf Cover.meet Rows.headerRows Rows.pointRows Rows.relationRows Form.rule1 Form.rule2 Form.rule3 Form.rule4 Form.fieldsFit Form.rule5

@@ -1,20 +1,21 @@
 -- The form of a file: refusals 1 to 6. File i, line k of it, the line's columns l.
 --   strayFrom t c bs = the first column, from c on, whose byte t does not take; 0 where there is none
 --   stray f k        = that of line k, in the medium's own bytes
---   rule1 .. rule6   = the refusals of those numbers
+--   ending f         = the first line that says that the set's lines have ended; the number of lines where none does
+--   rule1 .. rule6, rule29 = the refusals of those numbers
 --   fieldsFit        = 5 over the rows of a table, from the left
 --   lineFits i f k   = 3 (whole line), 4, 5, 6 of line k
---   form i f         = 1, 2, then line by line
+--   form i f         = 1, 2, 29, then line by line
 use Prim.Native.Nat.{ℕ, suc, _+_, _/_, _%_, min}
 use mathlib.Core.Bool.{Bool, false, not, _&&_}
 use mathlib.Core.List.{List, [], _∷_}
 use lib.Dec.{eqb, leb}
-use Rattle.rules.specs.Places.{every, pick}
+use Rattle.rules.specs.Places.{every, least, pick}
 use Rattle.rules.specs.Plan.{Plan, №, fileX, pass, need, _before_, upTo, when}
 use Rattle.rules.specs.Text.{col}
 use Rattle.rules.specs.Kinds.{fits}
 use Rattle.rules.specs.Layout.{Layout, letterColumn, at}
-use Rattle.rules.specs.Sheet.{Sheet, mostLines}
+use Rattle.rules.specs.Sheet.{Sheet, mostLines, allLines}
 use Rattle.rules.specs.Lines.{letter, isHeader, isMarker}
 use Rattle.rules.specs.Relations.{Reach, reach}
 use Rattle.rules.specs.Cover.{traces, receivers}
@@ -22,11 +23,18 @@ use Rattle.rules.specs.Rows.{Row, headerRows, pointRows, relationRows}
 
 -- 1: file length is no multiple of a line's
 unfoldable pub rule1 : ℕ → Sheet → Plan
-rule1 i f = need (eqb (f .left) 0) (№ 1 i (min (f .count + 1) (mostLines + 1)) 0)
+rule1 i f = need (eqb (f .left) 0) (№ 1 i (min (allLines f + 1) (mostLines + 1)) 0)
 
 -- 2: too many lines
 unfoldable pub rule2 : ℕ → Sheet → Plan
-rule2 i f = need (leb (f .count) mostLines) (№ 2 i (mostLines + 1) 0)
+rule2 i f = need (leb (allLines f) mostLines) (№ 2 i (mostLines + 1) 0)
+
+-- 29: the line that ends the file is missing, or others follow it
+unfoldable pub ending : Sheet → ℕ
+ending f = least (allLines f) (f .ends)
+
+unfoldable pub rule29 : ℕ → Sheet → Plan
+rule29 i f = need (eqb (ending f + f .closing) (allLines f)) (№ 29 i (min (ending f + 2) (allLines f + 1)) 0)
 
 -- 3: a byte outside its range
 unfoldable pub strayFrom : (ℕ → ℕ → Bool) → ℕ → List ℕ → ℕ
@@ -75,4 +83,4 @@ lineFits i f k =
     before when (not (isHeader l) && eqb i fileX) (rule6 L k (reach L l))
 
 unfoldable pub form : ℕ → Sheet → Plan
-form i f = rule1 i f before rule2 i f before upTo (f .count) (lineFits i f)
+form i f = rule1 i f before rule2 i f before rule29 i f before upTo (f .count) (lineFits i f)

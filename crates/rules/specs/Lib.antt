@@ -5,8 +5,10 @@ pub mod Numbers
 pub mod Kinds
 pub mod Layout
 pub mod Sheet
-pub mod Disc
 pub mod Names
+pub mod Medium
+pub mod Disc
+pub mod Tape
 pub mod Lines
 pub mod Points
 pub mod Relations
@@ -20,12 +22,14 @@ pub mod Check
 pub mod Questions
 pub mod Lookup
 pub mod Spread
+pub mod Calls
 pub mod Show
 pub mod Hosts
 pub mod SetA
 pub mod MeetsFields
 pub mod MeetsForm
 pub mod MeetsDisc
+pub mod MeetsTape
 pub mod MeetsHeaders
 pub mod MeetsCover
 pub mod MeetsSet

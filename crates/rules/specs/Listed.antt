@@ -2,9 +2,9 @@
 --   row n fs ls cs    = number n stands in one of the files fs, one of the lines ls and one of the columns cs
 --   only c            = column c
 --   begins ws         = the first columns of a table's fields
---   published         = the rows 1 to 21
+--   published         = the rows 1 to 21, and 29
 --   Listed w          = w is from the list
-use Prim.Native.Nat.{ℕ, _+_, _≤_}
+use Prim.Native.Nat.{ℕ, _+_}
 use mathlib.Core.Path.{_≡_}
 use mathlib.Core.Bool.{Bool, true, false, _&&_, _||_}
 use mathlib.Core.List.{List, [], _∷_, _++_}
@@ -52,7 +52,8 @@ published =
     ∷ row 18 (fileX ∷ []) (1 to 9999) (only 64)
     ∷ row 19 (fileX ∷ []) (1 to 9999) (only 64)
     ∷ row 20 (0 ∷ []) (0 to 0) (only 0)
-    ∷ row 21 (0 ∷ []) (0 to 0) (only 0) ∷ []
+    ∷ row 21 (0 ∷ []) (0 to 0) (only 0)
+    ∷ row 29 (fileR ∷ fileS ∷ fileX ∷ []) (1 to 10000) (only 0) ∷ []
 
 unfoldable pub oneOfFiles : ℕ → List ℕ → Bool
 oneOfFiles f [] = false

@@ -1,4 +1,4 @@
--- Refusals 1 to 6 in words, of one file: what each rule says, and what it is to break it. File i, line k of it.
+-- Refusals 1 to 6 and 29 in words, of one file: what each rule says, and what it is to break it. File i, line k of it.
 --   Header l             = H in column 1
 --   Marker L l           = PM in the code's columns
 --   Data f k, Point f k  = line k is no header line; and no marker: a receiver or a shot
@@ -8,10 +8,11 @@
 --   Checked M w          = the field is asked of the line: it is not one that a marker has free
 --   FirstOf M l ws c     = the first field from the left that breaks its rule, and it begins in column c
 --   Counted q            = 6 of one relation line, and Miscounted L q c that it is broken, in column c
---   Rule1 .. Rule6       = the rules of those numbers
---   Breach1 .. Breach6   = the contrary of each; of 3, 5 and 6 in that column
+--   FirstEnd f e, NoEnd f = line e is the first that ends the file; none does
+--   Rule1 .. Rule6, Rule29 = the rules of those numbers
+--   Breach1 .. Breach6   = the contrary of each; of 3, 5 and 6 in that column, and of 29 in that line
 --   Formed i f           = a field for each of the rules
-use Prim.Native.Nat.{ℕ, _/_, _%_, _≤_, _<_}
+use Prim.Native.Nat.{ℕ, _+_, _/_, _%_, _≤_, _<_}
 use Prim.Native.Char.{code as ascii}
 use mathlib.Core.Path.{_≡_}
 use mathlib.Core.Logic.{_⊎_}
@@ -21,7 +22,7 @@ use lib.ListN.{length}
 use Rattle.rules.specs.Plan.{fileX}
 use Rattle.rules.specs.Text.{col, bytes}
 use Rattle.rules.specs.Layout.{Layout, letterColumn, at}
-use Rattle.rules.specs.Sheet.{Sheet, mostLines}
+use Rattle.rules.specs.Sheet.{Sheet, mostLines, allLines}
 use Rattle.rules.specs.Lines.{letter}
 use Rattle.rules.specs.Relations.{Reach, reachAt}
 use Rattle.rules.specs.Cover.{traces, receivers}
@@ -52,10 +53,25 @@ Breach1 f = f .left ≡ 0 → ⊥
 
 -- 2: "more than 9,999 lines"
 abbrev pub Rule2 : Sheet → Type 0
-Rule2 f = f .count ≤ mostLines
+Rule2 f = allLines f ≤ mostLines
 
 abbrev pub Breach2 : Sheet → Type 0
-Breach2 f = mostLines < f .count
+Breach2 f = mostLines < allLines f
+
+-- 29: "no record is EOF: at the line after the last record; records follow the first EOF: at the line after that EOF"
+abbrev pub FirstEnd : Sheet → ℕ → Type 0
+FirstEnd f e = (e < allLines f) × (f .ends e ≡ true) × ((j : ℕ) → j < e → f .ends j ≡ true → ⊥)
+
+abbrev pub NoEnd : Sheet → Type 0
+NoEnd f = (j : ℕ) → j < allLines f → f .ends j ≡ true → ⊥
+
+abbrev pub Rule29 : Sheet → Type 0
+Rule29 f = ((e : ℕ) × FirstEnd f e × (e + f .closing ≡ allLines f)) ⊎ (NoEnd f × (f .closing ≡ 0))
+
+abbrev pub Breach29 : Sheet → ℕ → Type 0
+Breach29 f l =
+    ((e : ℕ) × FirstEnd f e × (e + f .closing ≡ allLines f → ⊥) × (e + 2 ≡ l))
+    ⊎ (NoEnd f × (f .closing ≡ 0 → ⊥) × (allLines f + 1 ≡ l))
 
 -- 3: "a byte outside its range, or no CR or LF at 81, 82"; the lowest such column
 abbrev pub Taken : Sheet → ℕ → ℕ → Type 0
@@ -126,6 +142,7 @@ Breach6 i f k c = Relates i f k × Miscounted (f .layout) (reachAt f k) c
 pub record Formed (i : ℕ) (f : Sheet) : Type 0 where
   pub rule1 : Rule1 f
   pub rule2 : Rule2 f
+  pub rule29 : Rule29 f
   pub rule3 : (k : ℕ) → k < f .count → Rule3 f k
   pub rule4 : (k : ℕ) → k < f .count → Rule4 i f k
   pub rule5 : (k : ℕ) → k < f .count → Rule5 i (f .layout) (f .row k)

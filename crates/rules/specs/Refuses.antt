@@ -6,7 +6,7 @@
 --   lineByLine n o     = o 0, then o 1, .. then o (n - 1)
 --   Kept o             = each rule of it is met
 --   First o w          = w is its first breach: a rule is broken by w, and each rule before it is met
---   formOrder i f      = "1, 2, then line by line 3 (whole line), 4, 5 by field from the left, 6"
+--   formOrder i f      = "1, 2, 29, then line by line 3 (whole line), 4, 5 by field from the left, 6"
 --   lineOrder, headerOrder, shotOrder, relationOrder = the parts of a line, of a header, of S and of X
 --   related x k R B v  = a rule of line k of X, where that is a relation line
 --   order r s x        = "First the form of R, then S, then X. .. Last 15."
@@ -16,7 +16,8 @@ use mathlib.Core.Path.{_≡_}
 use mathlib.Core.Logic.{_⊎_}
 use Rattle.rules.specs.Plan.{Refusal, №, fileR, fileS, fileX}
 use Rattle.rules.specs.Layout.{letterColumn}
-use Rattle.rules.specs.Sheet.{Sheet, mostLines}
+use Rattle.rules.specs.Sheet.{Sheet, mostLines, allLines}
+use Rattle.rules.specs.MeetsForm.{Rule29, Breach29}
 use Rattle.rules.specs.MeetsForm.{Data, Rule1, Rule2, Rule3, Rule4, Rule5, Rule6, Breach1, Breach2, Breach3, Breach4, Breach5, Breach6}
 use Rattle.rules.specs.MeetsHeaders.{Heads, Rule7, Rule8, Rule9, Breach7, Breach8, Breach9}
 use Rattle.rules.specs.MeetsSet.{Rule10, Rule11, Rule12, Rule13, Rule14, Rule15, Rule16, Rule17, Rule18, Rule19}
@@ -53,8 +54,9 @@ lineOrder i f k =
 
 abbrev pub formOrder : ℕ → Sheet → Order
 formOrder i f =
-    look (Rule1 f) (by (Breach1 f) (№ 1 i (min (f .count + 1) (mostLines + 1)) 0))
+    look (Rule1 f) (by (Breach1 f) (№ 1 i (min (allLines f + 1) (mostLines + 1)) 0))
     then look (Rule2 f) (by (Breach2 f) (№ 2 i (mostLines + 1) 0))
+    then look (Rule29 f) (λ w. (l : ℕ) × by (Breach29 f l) (№ 29 i l 0) w)
     then lineByLine (f .count) (lineOrder i f)
 
 abbrev pub headerOrder : ℕ → Sheet → Sheet → Order

@@ -5,11 +5,14 @@
 --   relationLine       = a line of X: source point, channels and increment, receiver line name, receivers
 --   rOf, xOf           = an R file of three points, an X file of those lines
 --   rA, sA, xA         = set A
-use Prim.Native.Nat.{ℕ, zero, suc, _+_, _-_}
+--   eof, tapeOf f      = the record that ends a tape, and the tape of a disc file: its lines in the tape's own bytes, then that record
+use Prim.Native.Nat.{ℕ, zero, suc, _+_, _-_, _/_}
 use Prim.Native.String.{String}
 use mathlib.Core.List.{List, [], _∷_, _++_}
 use lib.ListN.{take, drop, replicate, length}
 use Rattle.rules.specs.Text.{bytes}
+use Rattle.rules.specs.Names.{ranked}
+use Rattle.rules.specs.Tape.{page, byteIn}
 use Rattle.rules.specs.Headers.{twoDigits}
 
 abbrev pub blankLine : List ℕ
@@ -56,3 +59,13 @@ lineA = relationLine "     501" "   1   31" "L1" "     101     103"
 
 abbrev pub xA : List ℕ
 xA = xOf lineA
+
+abbrev pub eof : List ℕ
+eof = 197 ∷ 214 ∷ 198 ∷ replicate 77 64
+
+abbrev pub recordsOf : ℕ → List ℕ → List ℕ
+recordsOf zero f = []
+recordsOf (suc n) f = ranked (byteIn page) (take 80 f) ++ recordsOf n (drop 82 f)
+
+abbrev pub tapeOf : List ℕ → List ℕ
+tapeOf f = recordsOf (length f / 82) f ++ eof

@@ -1,0 +1,41 @@
+-- A set by the number that a caller has for its medium: 1 the disc form, 2 the tape form. Any other number is 20, before all else.
+--   Choice          = a medium, or none
+--   choice n        = what a number chooses
+--   chosen d a      = what a call answers: 20 where no medium is chosen, else what it answers of the chosen one
+--   Chosen d P Q    = P of the chosen medium, Q where none is chosen
+--   checkIn, lookupIn, wayBackIn = the set check, the lookup and the way back of three files
+use Prim.Native.Nat.{ℕ}
+use mathlib.Core.List.{List}
+use lib.Dec.{eqb}
+use Rattle.rules.specs.Places.{pick}
+use Rattle.rules.specs.Plan.{№}
+use Rattle.rules.specs.Layout.{sps93}
+use Rattle.rules.specs.Medium.{Medium, sheet}
+use Rattle.rules.specs.Disc.{disc}
+use Rattle.rules.specs.Tape.{tape}
+use Rattle.rules.specs.Check.{Answer, refusal, check}
+use Rattle.rules.specs.Lookup.{lookup, wayBack}
+
+pub data Choice : Type 0 where
+  on : Medium → Choice
+  none : Choice
+
+unfoldable pub choice : ℕ → Choice
+choice n = pick (eqb n 1) (on disc) (pick (eqb n 2) (on tape) none)
+
+abbrev pub chosen : Choice → (Medium → Answer) → Answer
+chosen (on M) a = a M
+chosen none a = refusal (№ 20 0 0 0)
+
+abbrev pub Chosen : Choice → (Medium → Type 0) → Type 0 → Type 0
+Chosen (on M) P Q = P M
+Chosen none P Q = Q
+
+abbrev pub checkIn : Choice → List ℕ → List ℕ → List ℕ → Answer
+checkIn d r s x = chosen d (λ M. check (sheet M sps93 r) (sheet M sps93 s) (sheet M sps93 x))
+
+abbrev pub lookupIn : Choice → List ℕ → List ℕ → List ℕ → List ℕ → ℕ → ℕ → Answer
+lookupIn d r s x t n c = chosen d (λ M. lookup (sheet M sps93 r) (sheet M sps93 s) (sheet M sps93 x) t n c)
+
+abbrev pub wayBackIn : Choice → List ℕ → List ℕ → List ℕ → List ℕ → ℕ → ℕ → ℕ → Answer
+wayBackIn d r s x t n j m = chosen d (λ M. wayBack (sheet M sps93 r) (sheet M sps93 s) (sheet M sps93 x) t n j m)
