@@ -7,4 +7,5 @@ pub mod Pairs
 pub mod Packed
 pub mod Texts
 pub mod LowHalves
+pub mod Ranked
 pub mod One

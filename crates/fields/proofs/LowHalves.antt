@@ -1,5 +1,6 @@
 -- A number by the low halves of its bytes is the number that the field holds, where it holds one.
 --   figures-whole   = of a whole number
+--   index-one, index-low = an index, by the low half of its column
 --   figures-end, figures-step, room-none, room-more, room-eight = the walk over the columns, and that the number stays small
 use Prim.Native.Nat.{ℕ, suc, _+_, _-_, _*_, _%_, _^_, _≤_, _<_}
 use native.Mathlib.Nat.{pow-suc, pow-le-pow-right, one-le-pow}
@@ -9,13 +10,14 @@ use mathlib.Core.Bool.{Bool, true, false}
 use mathlib.Core.List.{List, [], _∷_}
 use lib.Dec.{eqb}
 use lib.ListN.{getD}
-use borrow.Author.Tests.{eqb-true}
+use borrow.Author.Tests.{eqb-true, ne-eqb}
 use Rattle.rules.specs.Places.{pick}
-use Rattle.rules.specs.Text.{cols}
+use Rattle.rules.specs.Text.{col, cols}
 use Rattle.rules.specs.Numbers.{digit, malformed, plus, digitsAfter, digits, justified, whole}
 use Rattle.rules.proofs.Tests.{says}
 use Rattle.rules.proofs.Columns.{cols-end, cols-step}
-use Rattle.fields.specs.Figures.{figuresAfter, figures}
+use Rattle.fields.specs.Figures.{figuresAfter, figures, lowIndex}
+use Rattle.fields.proofs.Codes.{first-column}
 
 digit-low : (b : ℕ) → digit b ≡ true → b % 16 ≡ b - 48
 unfolding digit
@@ -47,6 +49,19 @@ whole-figures (b ∷ bs) n e = go (whole-figures bs n) (eqb b 32) refl e
 pub figures-whole : (bs : List ℕ) (n : ℕ) → whole bs ≡ plus n → figures bs ≡ n
 unfolding whole
 figures-whole bs n e = whole-figures bs n e
+
+-- the index in column a
+module _ (l : List ℕ) (a : ℕ) (o : 1 ≤ a) (d : ℕ) (e : d ≡ getD l (a - 1) 0 % 16) where
+  column : col (cols l a a) 1 % 16 ≡ d
+  column = ap (λ (b : ℕ). b % 16) (first-column l a a o (omega arith)) ∙ sym e
+
+  pub index-one : d ≡ 0 → 1 ≡ lowIndex (cols l a a)
+  unfolding lowIndex pick
+  index-one z = rw (column, z)
+
+  pub index-low : (d ≡ 0 → ⊥) → d ≡ lowIndex (cols l a a)
+  unfolding lowIndex pick
+  index-low n = rw (column, ne-eqb d 0 n)
 
 -- the walk over the columns
 module _ (l : List ℕ) (c b : ℕ) (o : 1 ≤ c) (v X : ℕ) (e : figuresAfter v (cols l c b) ≡ X) where

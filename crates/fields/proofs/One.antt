@@ -63,6 +63,10 @@ use Rattle.fields.proofs.fits.Reads as fits-reads
 use Rattle.fields.specs.Paper.{number}
 use Rattle.fields.specs.declared.Number.{Number}
 use Rattle.fields.specs.declared.Number.the-variants.{Malformed, Plus, Minus}
+use Rattle.fields.proofs.figures.number as figures-number
+use Rattle.fields.proofs.figures.number.Reads as figures-number-reads
+use Rattle.fields.proofs.figures.index as figures-index
+use Rattle.fields.proofs.figures.index.Reads as figures-index-reads
 
 pub number-one : (a b : Number) → number a ≡ number b → a ≡ b
 number-one Malformed Malformed e = refl
@@ -161,3 +165,9 @@ same-name-one κs a v v′ w w′ = alike
 
 pub fits-one : One fits.ended fits-reads.Post
 fits-one κs a v v′ w w′ = alike
+
+pub figures-number-one : One figures-number.ended figures-number-reads.Post
+figures-number-one κs a v v′ w w′ p p′ = (p .0 ∙ sym (p′ .0), refl)
+
+pub figures-index-one : One figures-index.ended figures-index-reads.Post
+figures-index-one κs a v v′ w w′ p p′ = (p .0 ∙ sym (p′ .0), refl)

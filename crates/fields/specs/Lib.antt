@@ -3,3 +3,4 @@ pub mod Ink
 pub mod Packed
 pub mod Figures
 pub mod Texts
+pub mod Ranks

@@ -23,13 +23,15 @@ use Rattle.rules.specs.Relations.{reach, relation, reachAt, relationAt}
 use Rattle.rules.proofs.Columns.{cols-length}
 use Rattle.rules.proofs.Sizes.{small-more, whole-small}
 use Rattle.rules.proofs.Breach.{run-met}
+use Rattle.rules.specs.Form.{stray}
 use Rattle.rules.specs.MeetsForm.{Formed}
 use Rattle.rules.proofs.Raw.{clean-stray}
 use Rattle.rules.proofs.Meets.{form-is}
 use Rattle.lines.specs.declared.Reading.{Reading}
-use Rattle.lines.specs.Reading.{sheetOf}
-use Rattle.lines.proofs.Sheets.{layout-is, row-small}
+use Rattle.lines.specs.Reading.{mediumOf, sheetOf}
+use Rattle.lines.proofs.Sheets.{lawful, layout-is, rank-is, row-small, own-is, row-told}
 use Rattle.fields.specs.Texts.{Small, Long, Wide}
+use Rattle.fields.specs.Ranks.{Ranks}
 use Rattle.fields.proofs.Codes.{first-column}
 use Rattle.fields.proofs.Texts.{cols-long}
 use Rattle.form.specs.Known.{Columns, AtMost, Shape, Known}
@@ -61,14 +63,27 @@ sps93-shape =
 met-formed : (i : ℕ) (f : Sheet) → fine ≡ run (form i f) → Formed i f
 met-formed i f m = form-is i f .0 (run-met (form i f) .0 (sym m))
 
+-- 3 of each line is met
+pub clean-line : (i : ℕ) (f : Sheet) → Known i f → (k : ℕ) → k < f .count → stray f k ≡ 0
+clean-line i f w k h = clean-stray f k .1 (met-formed i f (w .met) .rule3 k h)
+
+bytes-rank : (how : Reading) → Ranks (mediumOf how .byteOf)
+bytes-rank how =
+    let w = lawful how in
+    record { none = w .none; fits = w .fits; apart = w .apart; blanks = w .blanks; digits = w .digits }
+
 pub known : (how : Reading) (i : ℕ) (f : List ℕ) → fine ≡ run (form i (sheetOf how f)) → Known i (sheetOf how f)
 known how i f m =
     let w = met-formed i (sheetOf how f) m in
+    let s : (k : ℕ) → k < sheetOf how f .count → stray (sheetOf how f) k ≡ 0 = λ k h. clean-stray (sheetOf how f) k .1 (w .rule3 k h) in
     record {
-      few = w .rule2;
-      clean = λ k h. row-small how f k h (clean-stray (sheetOf how f) k .1 (w .rule3 k h));
+      few = let h = w .rule2 in omega arith;
+      clean = λ k h. row-small how f k h (s k h);
       met = m;
       shape = rw (layout-is how f) sps93-shape;
+      ranks = rw (rank-is how f) (bytes-rank how);
+      own = λ k h. own-is how f k h (s k h);
+      told = λ k h. row-told how f k h (s k h);
     }
 
 -- a field of a line of bytes, by its span

@@ -1,6 +1,7 @@
 -- The steps of the form of a file, by what the code finds at each.
 use Prim.Native.Nat.{ℕ, _+_, _≤_}
 use native.Mathlib.Numerals.{add-one}
+use native.Mathlib.Omega.{arith}
 use mathlib.Core.Path.{_≡_, refl, sym, ap, ap₂, _∙_}
 use mathlib.Core.Bool.{Bool, true, false, not, _&&_, and-false}
 use mathlib.Core.List.{List}
@@ -10,10 +11,10 @@ use Rattle.rules.specs.Places.{pick, every}
 use Rattle.rules.specs.Plan.{Verdict as PaperVerdict, fine, refused, №, _orElse_, Plan, _before_, run}
 use Rattle.rules.specs.Text.{col}
 use Rattle.rules.specs.Layout.{Layout}
-use Rattle.rules.specs.Sheet.{Sheet, mostLines}
+use Rattle.rules.specs.Sheet.{Sheet, mostLines, allLines}
 use Rattle.rules.specs.Lines.{letter, isHeader}
 use Rattle.rules.specs.Relations.{reach}
-use Rattle.rules.specs.Form.{stray, rule1, rule2, rule3, rule4, rule6, lineFits}
+use Rattle.rules.specs.Form.{stray, rule1, rule2, rule29, rule3, rule4, rule6, lineFits}
 use Rattle.rules.proofs.Breach.{run-met}
 use Rattle.rules.proofs.Steps.{need-met, need-broken, before-met, before-broken, when-on, when-off}
 use Rattle.lines.specs.declared.Verdict.{Verdict}
@@ -43,10 +44,16 @@ grouped p q r = go (run p) (run q) (run r)
     go fine v w = refl
     go (refused n) v w = refl
 
+pub three-grouped : (p q r s : Plan) → run ((p before q before r) before s) ≡ run (p before q before r before s)
+unfolding run
+three-grouped p q r s = grouped p (q before r) s ∙ ap (λ (v : PaperVerdict). run p orElse v) (grouped q r s)
+
 -- 2 leaves few enough lines to number
-pub few-lines : (f : Sheet) (i : ℕ) → fine ≡ run (rule1 i f before rule2 i f) → f .count ≤ mostLines
+pub few-lines : (f : Sheet) (i : ℕ) → fine ≡ run (rule1 i f before rule2 i f before rule29 i f) → f .count ≤ mostLines
 unfolding rule1 rule2
-few-lines f i e = leb-true (f .count) mostLines (run-met (rule1 i f before rule2 i f) .0 (sym e) .1)
+few-lines f i e =
+    let h = leb-true (allLines f) mostLines (run-met (rule1 i f before rule2 i f before rule29 i f) .0 (sym e) .1 .0) in
+    omega arith
 
 -- 4 of a line
 module _ (i k : ℕ) (h : Bool) (l : List ℕ) (t : Bool) (q : t ≡ isHeader l) where

@@ -2,14 +2,19 @@
 --   Columns n s   = the span s is n columns of a line; AtMost n s = at most n
 --   Shape L       = how wide the fields of a layout are that are compared as numbers
 --   Clean f       = the columns of its lines hold bytes
---   Known i f     = file i has few lines, clean columns, the form met, and a layout of that shape
+--   owned f k     = the first 80 bytes of line k as the medium has them
+--   Known i f     = file i has few lines, clean columns, the form met, and a layout of that shape; the own bytes of its lines are those of
+--                   their characters, each of which has one
 use Prim.Native.Nat.{ℕ, _+_, _≤_, _<_}
 use mathlib.Core.Path.{_≡_}
-use lib.ListN.{getD}
+use mathlib.Core.List.{List}
+use lib.ListN.{getD, take}
 use Rattle.rules.specs.Plan.{fine, run}
+use Rattle.rules.specs.Names.{ranked}
 use Rattle.rules.specs.Layout.{Span, Layout}
 use Rattle.rules.specs.Sheet.{Sheet, mostLines}
 use Rattle.rules.specs.Form.{form}
+use Rattle.fields.specs.Ranks.{Ranks, Told}
 
 abbrev pub Columns : ℕ → Span → Type 0
 Columns n s = (1 ≤ s .first) × (s .last + 1 ≡ s .first + n)
@@ -40,8 +45,14 @@ pub record Shape (L : Layout) : Type 0 where
 abbrev pub Clean : Sheet → Type 0
 Clean f = (k : ℕ) → k < f .count → (c : ℕ) → getD (f .row k) c 0 < 256
 
+abbrev pub owned : Sheet → ℕ → List ℕ
+owned f k = take 80 (f .raw k)
+
 pub record Known (i : ℕ) (f : Sheet) : Type 0 where
   pub few : f .count ≤ mostLines
   pub clean : Clean f
   pub met : fine ≡ run (form i f)
   pub shape : Shape (f .layout)
+  pub ranks : Ranks (f .rank)
+  pub own : (k : ℕ) → k < f .count → owned f k ≡ ranked (f .rank) (f .row k)
+  pub told : (k : ℕ) → k < f .count → Told (f .rank) (f .row k)

@@ -2,23 +2,40 @@
 use Prim.Native.Nat.{ℕ, suc, _+_, _-_, _≤_, _<_, min}
 use native.Mathlib.Numerals.{add-one}
 use native.Mathlib.Omega.{arith}
-use mathlib.Core.Path.{_≡_, sym, ap, subst, _∙_}
-use mathlib.Core.Bool.{Bool, true, false}
-use mathlib.Core.List.{List, _∷_}
+use mathlib.Core.Path.{_≡_, sym, ap, ap₂, subst, _∙_}
+use mathlib.Core.Bool.{Bool, true, false, _&&_, and-true}
+use mathlib.Core.List.{List, [], _∷_}
+use lib.Dec.{eqb}
 use lib.ListN.{length, getD, take, drop, set, length-take, length-drop}
 use borrow.Author.Tests.{eq-eqb, ne-eqb, le-leb, lt-leb}
 use lib.Seq.{drop-cons, getD-take, getD-drop, getD-set-same, getD-set-other, ext-getD}
 use Rattle.rules.specs.Places.{pick}
-use Rattle.rules.specs.Plan.{fine, refused, №, run, _before_, fileR, fileS}
+use Rattle.rules.specs.Text.{same}
+use Rattle.rules.specs.Tape.{tape}
+use Rattle.rules.specs.Disc.{disc}
+use Rattle.rules.specs.Calls.{on, none, choice}
+use Rattle.rules.specs.Plan.{Verdict, fine, refused, №, run, _before_, fileR, fileS}
 use Rattle.rules.specs.Lines.{letter}
-use Rattle.rules.specs.Sheet.{Sheet, mostLines}
-use Rattle.rules.specs.Form.{rule1, rule2}
-use Rattle.rules.specs.Disc.{byteFits}
-use Rattle.rules.specs.Form.{strayFrom}
+use Rattle.rules.specs.Sheet.{Sheet, mostLines, allLines}
+use Rattle.rules.specs.Form.{strayFrom, ending, rule1, rule2, rule29}
 use Rattle.rules.proofs.Tests.{more}
+use Rattle.rules.proofs.Least.{least-below}
 use Rattle.rules.proofs.Steps.{need-met, need-broken, before-met, before-broken}
 use Rattle.rules.specs.MeetsDisc.{Proper}
 use Rattle.lines.specs.Reading.{Printed}
+
+-- the medium of a number
+pub chosen-disc : (n : ℕ) → n ≡ 1 → on disc ≡ choice n
+unfolding choice pick
+chosen-disc n e = rw e
+
+pub chosen-tape : (n : ℕ) → n ≡ 2 → on tape ≡ choice n
+unfolding choice pick
+chosen-tape n e = rw e
+
+pub chosen-none : (n : ℕ) → (n ≡ 1 → ⊥) → (n ≡ 2 → ⊥) → none ≡ choice n
+unfolding choice pick
+chosen-none n p q = rw (ne-eqb _ _ p, ne-eqb _ _ q)
 
 -- the letter of a file
 pub letter-r : (i : ℕ) → i ≡ fileR → 82 ≡ letter i
@@ -61,20 +78,20 @@ rest-step f a w c h l =
     ap (take (w - c)) (drop-cons f (a + c) 0 (omega arith) ∙ ap (λ (m : ℕ). getD f (a + c) 0 ∷ drop m f) n)
     ∙ ap (λ (m : ℕ). take m (getD f (a + c) 0 ∷ drop (a + (c + 1)) f)) e
 
-module _ (f : List ℕ) (a w c X : ℕ) (e : strayFrom byteFits (c + 1) (take (w - c) (drop (a + c) f)) ≡ X) where
+module _ (takes : ℕ → ℕ → Bool) (f : List ℕ) (a w c X : ℕ) (e : strayFrom takes (c + 1) (take (w - c) (drop (a + c) f)) ≡ X) where
   pub stray-end : w ≤ c → 0 ≡ X
   unfolding strayFrom
   stray-end h = let z : w - c ≡ 0 = omega arith in (rw z) ∙ e
 
-  module _ (h : c < w) (l : a + w ≤ length f) (t : Bool) (q : t ≡ byteFits (c + 1) (getD f (a + c) 0)) where
+  module _ (h : c < w) (l : a + w ≤ length f) (t : Bool) (q : t ≡ takes (c + 1) (getD f (a + c) 0)) where
     pub stray-stop : t ≡ false → c + 1 ≡ X
     unfolding strayFrom pick
     stray-stop n = (rw (rest-step f a w c h l, ← q, n)) ∙ e
 
-    pub stray-step : t ≡ true → strayFrom byteFits (c + 1 + 1) (take (w - (c + 1)) (drop (a + (c + 1)) f)) ≡ X
+    pub stray-step : t ≡ true → strayFrom takes (c + 1 + 1) (take (w - (c + 1)) (drop (a + (c + 1)) f)) ≡ X
     unfolding strayFrom pick
     stray-step y =
-        ap (λ (m : ℕ). strayFrom byteFits m (take (w - (c + 1)) (drop (a + (c + 1)) f))) (add-one (c + 1)) ∙ (rw (rest-step f a w c h l, ← q, y)) ∙ e
+        ap (λ (m : ℕ). strayFrom takes m (take (w - (c + 1)) (drop (a + (c + 1)) f))) (add-one (c + 1)) ∙ (rw (rest-step f a w c h l, ← q, y)) ∙ e
 
 -- the c bytes from a on are printable where the greatest of them, less 32, is at most 94
 abbrev pub PrintedTo : List ℕ → ℕ → ℕ → ℕ → Type 0
@@ -100,17 +117,66 @@ proper-all f a h e n c l = (
   )),
 )
 
--- 1 and 2 of a file of n lines
-module _ (i : ℕ) (f : Sheet) (n : ℕ) (q : n ≡ f .count) where
-  pub one-broken : (l : ℕ) → (f .left ≡ 0 → ⊥) → l ≡ min (n + 1) 10000 → refused (№ 1 i l 0) ≡ run (rule1 i f before rule2 i f)
-  unfolding rule1 rule2 mostLines
+-- 1, 2 and 29 of a file of n lines
+module _ (i : ℕ) (f : Sheet) (n : ℕ) (q : n ≡ allLines f) where
+  pub one-broken : (l : ℕ) → (f .left ≡ 0 → ⊥) → l ≡ min (n + 1) 10000 → refused (№ 1 i l 0) ≡ run (rule1 i f before rule2 i f before rule29 i f)
+  unfolding rule1 mostLines
   one-broken l h e =
       ap (λ (l : ℕ). refused (№ 1 i l 0)) (e ∙ ap (λ (n : ℕ). min (n + 1) 10000) q) ∙ before-broken _ _ _ (need-broken _ _ (ne-eqb _ _ h))
 
-  pub two-broken : f .left ≡ 0 → 9999 < n → refused (№ 2 i 10000 0) ≡ run (rule1 i f before rule2 i f)
-  unfolding rule1 rule2 mostLines
-  two-broken z h = need-broken _ _ (lt-leb _ _ (rw q at h)) ∙ before-met _ _ (need-met _ _ (eq-eqb _ _ z))
+  module _ (z : f .left ≡ 0) where
+    one-met : fine ≡ run (rule1 i f)
+    unfolding rule1
+    one-met = need-met _ _ (eq-eqb _ _ z)
 
-  pub both-met : f .left ≡ 0 → n ≤ 9999 → fine ≡ run (rule1 i f before rule2 i f)
-  unfolding rule1 rule2 mostLines
-  both-met z h = need-met _ _ (le-leb _ _ (rw q at h)) ∙ before-met _ _ (need-met _ _ (eq-eqb _ _ z))
+    pub two-broken : 9999 < n → refused (№ 2 i 10000 0) ≡ run (rule1 i f before rule2 i f before rule29 i f)
+    unfolding rule2 mostLines
+    two-broken h = before-broken _ _ _ (need-broken _ _ (lt-leb _ _ (rw q at h))) ∙ before-met _ _ one-met
+
+    pub two-met : n ≤ 9999 → (v : Verdict) → v ≡ run (rule29 i f) → v ≡ run (rule1 i f before rule2 i f before rule29 i f)
+    unfolding rule2 mostLines
+    two-met h v p = p ∙ before-met _ _ (need-met _ _ (le-leb _ _ (rw q at h))) ∙ before-met _ _ one-met
+
+  module _ (e c : ℕ) (p : e ≡ ending f) (r : c ≡ f .closing) where
+    pub end-met : e + c ≡ n → fine ≡ run (rule29 i f)
+    unfolding rule29
+    end-met z =
+        let y : ending f + f .closing ≡ allLines f = rw (p, r, q) at z in
+        need-met _ _ (eq-eqb _ _ y)
+
+    pub end-broken : (e + c ≡ n → ⊥) → (l : ℕ) → l ≡ min (e + 2) (n + 1) → refused (№ 29 i l 0) ≡ run (rule29 i f)
+    unfolding rule29
+    end-broken z l y =
+        ap (λ (l : ℕ). refused (№ 29 i l 0)) (y ∙ rw (p, q))
+        ∙ need-broken _ _ (ne-eqb (ending f + f .closing) (allLines f) (λ x. z (rw (p, r, q) x)))
+
+-- the end stands within the lines
+pub ending-few : (f : Sheet) → ending f ≤ allLines f
+unfolding ending
+ending-few f = least-below (allLines f) (f .ends)
+
+-- the first three bytes of a record
+module _ (f : List ℕ) (a : ℕ) (h : a + 80 ≤ length f) where
+  three : take 3 (take 80 (drop a f)) ≡ getD f a 0 ∷ getD f (a + 1) 0 ∷ getD f (a + 2) 0 ∷ []
+  three =
+      let b = drop-cons f a 0 (omega arith) in
+      let c = drop-cons f (suc a) 0 (omega arith) in
+      let d = drop-cons f (suc (suc a)) 0 (omega arith) in
+      let y : suc a ≡ a + 1 = omega arith in
+      let z : suc (suc a) ≡ a + 2 = omega arith in
+      ap (λ (l : List ℕ). take 3 (take 80 l)) (b ∙ ap (λ (l : List ℕ). getD f a 0 ∷ l) (c ∙ ap (λ (l : List ℕ). getD f (suc a) 0 ∷ l) d))
+      ∙ ap₂ (λ (m n : ℕ). getD f a 0 ∷ getD f m 0 ∷ getD f n 0 ∷ []) y z
+
+  pub eof-is : tape .ends (take 80 (drop a f)) ≡ (eqb (getD f a 0) 197 && (eqb (getD f (a + 1) 0) 214 && (eqb (getD f (a + 2) 0) 198 && true)))
+  unfolding tape same
+  eof-is = rw three
+
+  pub eof-first : (getD f a 0 ≡ 197 → ⊥) → false ≡ tape .ends (take 80 (drop a f))
+  eof-first n = sym (eof-is ∙ rw (ne-eqb _ _ n))
+
+  module _ (e : getD f a 0 ≡ 197) where
+    pub eof-second : (getD f (a + 1) 0 ≡ 214 → ⊥) → false ≡ tape .ends (take 80 (drop a f))
+    eof-second n = sym (eof-is ∙ rw (eq-eqb _ _ e, ne-eqb _ _ n))
+
+    pub eof-third : getD f (a + 1) 0 ≡ 214 → (t : Bool) → t ≡ eqb (getD f (a + 2) 0) 198 → t ≡ tape .ends (take 80 (drop a f))
+    eof-third d t q = q ∙ sym (eof-is ∙ rw (eq-eqb _ _ e, eq-eqb _ _ d, and-true))

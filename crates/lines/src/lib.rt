@@ -2,17 +2,26 @@
 // Lines count from 0 here; above this crate nobody knows how many bytes a line has.
 ghost use mathlib.Core.Path.{_≡_};
 ghost use mathlib.Core.Bool.{true};
-ghost use Prim.Native.Nat.{ℕ, _+_, _≤_, _<_};
-ghost use lib.ListN.{length, getD};
+ghost use Prim.Native.Nat.{ℕ, _+_, _*_, _≤_, _<_};
+ghost use lib.Dec.{eqb};
+ghost use lib.ListN.{length, getD, take, drop};
 ghost use denote.Ref.{ptr};
-ghost use Rattle.rules.specs.Places.{pick};
+ghost use Rattle.rules.specs.Places.{pick, least};
 ghost use Rattle.rules.specs.Plan.{refused, №, run, _before_};
 ghost use Rattle.rules.specs.Disc.{byteFits};
+ghost use Rattle.rules.specs.Sheet.{mostLines, allLines};
+ghost use Rattle.rules.specs.Tape.{tape};
+ghost use Rattle.rules.specs.Calls.{choice as choiceOf};
+ghost use Rattle.rules.specs.MeetsDisc.{Proper};
 ghost use Rattle.rules.specs.Lines.{letter as letterOf};
-ghost use Rattle.rules.specs.Form.{stray as strayOf, rule1, rule2};
+ghost use Rattle.rules.specs.Form.{stray as strayOf, ending as endingOf, rule1, rule2, rule29};
 ghost use Rattle.rules.specs.Show.{shown as columnsOf, start, ofS, show as showOf, startIn};
 ghost use Rattle.lines.specs.Paper.{paper, into};
-ghost use Rattle.lines.specs.Reading.{onDisc, strideOf, sheetOf, Printed};
+ghost use Rattle.lines.specs.Reading.{onDisc, mediumOf, chosenBy, sheetOf, columnsAt, Printed};
+
+mod eof;
+mod page;
+mod proper;
 
 // At most so many lines a file.
 pub const MOST_LINES: usize = 9999;
@@ -26,6 +35,7 @@ pub enum Verdict {
 // The form in which files come.
 pub enum Medium {
     Disc,
+    Tape,
 }
 
 // How the files of a set are read. Only this crate looks into it.
@@ -42,13 +52,46 @@ pub fn disc() -> Reading
     }
 }
 
+// What a caller's number says of the medium: how files are read, or nothing.
+pub enum Choice {
+    On(Reading),
+    None,
+}
+
+// The medium of a caller's number: 1 the disc form, 2 the tape form, any other none.
+pub fn chosen(medium: u64) -> Choice
+    ensures value { λ c. ⌜ chosenBy c ≡ choiceOf medium ⌝ }
+{
+    match medium {
+        1 => Choice::On(Reading {
+            medium: Medium::Disc,
+        }),
+        2 => Choice::On(Reading {
+            medium: Medium::Tape,
+        }),
+        _ => Choice::None,
+    }
+}
+
 // The bytes of a line.
 fn stride(how: Reading) -> usize
-    ensures value { λ n. ⌜ n ≡ strideOf how ⌝ }
+    ensures value { λ n. ⌜ n ≡ mediumOf how .stride ⌝ }
 {
     let m = how.medium;
     match m {
         Medium::Disc => 82,
+        Medium::Tape => 80,
+    }
+}
+
+// How many lines end a file.
+fn closing(how: Reading) -> usize
+    ensures value { λ n. ⌜ n ≡ mediumOf how .closing ⌝ }
+{
+    let m = how.medium;
+    match m {
+        Medium::Disc => 0,
+        Medium::Tape => 1,
     }
 }
 
@@ -73,16 +116,49 @@ pub fn at_line(n: u8, i: u8, k: usize, c: u8) -> Verdict
     Verdict::Refused(n, i, k as u32 + 1, c)
 }
 
-// How many whole lines a file has.
+// How many lines of the set a file has.
 pub fn line_count(how: Reading, f: &[u8]) -> usize
     ensures value { λ n. ⌜ n ≡ sheetOf how (now (f .entry)) .count ⌝ }
 {
-    f.len() / stride(how)
+    let m = how.medium;
+    match m {
+        Medium::Disc => f.len() / 82,
+        Medium::Tape => eof::lines_before(f.len() / 80),
+    }
 }
 
-// 1 and 2 of file i.
+// The first line that says that the set's lines have ended, or the number of lines.
+fn ending(how: Reading, f: &[u8]) -> usize
+    ensures value { λ e. ⌜ e ≡ endingOf (sheetOf how (now (f .entry))) ⌝ }
+{
+    let n = f.len() / stride(how);
+    let m = how.medium;
+    match m {
+        Medium::Disc => n,
+        Medium::Tape => eof::first_eof(f, n),
+    }
+}
+
+// 29 of file i.
+fn end_fits(how: Reading, f: &[u8], i: u8) -> Verdict
+    requires { ⌜ allLines (sheetOf how (now f)) ≤ mostLines ⌝ }
+    ensures verdict { λ v. ⌜ paper v ≡ run (rule29 i (sheetOf how (now (f .entry)))) ⌝ }
+{
+    let n = f.len() / stride(how);
+    let e = ending(how, f);
+    if e + closing(how) == n {
+        return Verdict::Fine;
+    }
+    if e < n {
+        return at_line(29, i, e + 1, 0);
+    }
+    at_line(29, i, n, 0)
+}
+
+// 1, 2 and 29 of file i.
 pub fn length_fits(how: Reading, f: &[u8], i: u8) -> Verdict
-    ensures verdict { λ v. ⌜ paper v ≡ run (rule1 i (sheetOf how (now (f .entry))) before rule2 i (sheetOf how (now (f .entry)))) ⌝ }
+    ensures verdict { λ v. ⌜ paper v ≡ run (rule1 i (sheetOf how (now (f .entry))) before rule2 i (sheetOf how (now (f .entry)))
+        before rule29 i (sheetOf how (now (f .entry)))) ⌝ }
 {
     let w = stride(how);
     let n = f.len() / w;
@@ -95,16 +171,15 @@ pub fn length_fits(how: Reading, f: &[u8], i: u8) -> Verdict
     if MOST_LINES < n {
         return at_line(2, i, MOST_LINES, 0);
     }
-    Verdict::Fine
+    end_fits(how, f, i)
 }
 
-// Line k as 80 columns.
-pub fn line_of(how: Reading, f: &[u8], k: usize) -> [u8; 80]
-    requires { ⌜ k < sheetOf how (now f) .count ⌝ }
-    ensures value { λ l. ⌜ l ≡ sheetOf how (now (f .entry)) .row k ⌝ }
+// The 80 bytes from `at` on.
+fn columns(f: &[u8], at: usize) -> [u8; 80]
+    requires { ⌜ at + 80 ≤ length (now f) ⌝ }
+    ensures value { λ l. ⌜ l ≡ columnsAt (now (f .entry)) at ⌝ }
 {
     let mut l = [0; 80];
-    let at = stride(how) * k;
     let mut c = 0;
     while c < 80 {
         l[c] = f[at + c];
@@ -113,42 +188,37 @@ pub fn line_of(how: Reading, f: &[u8], k: usize) -> [u8; 80]
     l
 }
 
-// What a byte in column c of the 82 may be.
-fn byte_fits(c: usize, b: u8) -> bool
-    ensures value { λ t. ⌜ t ≡ byteFits c b ⌝ }
+// Line k as 80 columns.
+pub fn line_of(how: Reading, f: &[u8], k: usize) -> [u8; 80]
+    requires { ⌜ k < sheetOf how (now f) .count ⌝ }
+    ensures value { λ l. ⌜ l ≡ sheetOf how (now (f .entry)) .row k ⌝ }
 {
-    if c <= 80 {
-        32 <= b && b <= 126
-    } else if c == 81 {
-        b == 13
-    } else {
-        b == 10
+    let l = columns(f, stride(how) * k);
+    let m = how.medium;
+    match m {
+        Medium::Disc => l,
+        Medium::Tape => page::translated(l),
     }
 }
 
-// The greater of m and of b less 32, around 256: at most 94 where b is printable.
-fn greater(m: u8, b: u8) -> u8
-    ensures value { λ r. ⌜ (m ≤ r) × (r ≤ 94 → Printed b) ⌝ }
+// The first 80 bytes of line k as the medium has them: by these names are in order, and a line that the form check has passed is read.
+pub fn own_of(how: Reading, f: &[u8], k: usize) -> [u8; 80]
+    requires { ⌜ k < sheetOf how (now f) .count ⌝ }
+    ensures value { λ l. ⌜ l ≡ take 80 (sheetOf how (now (f .entry)) .raw k) ⌝ }
 {
-    let t = std::num::wrapping_sub_u8(b, 32);
-    if m < t {
-        return t;
-    }
-    m
+    columns(f, stride(how) * k)
 }
 
-// The 80 bytes from `at` on are printable. It looks at all of them and keeps the greatest, so that they are compared many at a time.
-fn all_printed(f: &[u8], at: usize) -> bool
-    requires { ⌜ at + 80 ≤ length (now f) ⌝ }
-    ensures value { λ t. ⌜ (t ≡ true → (c : ℕ) → c < 80 → Printed (getD (now (f .entry)) (at + c) 0)) ⌝ }
+// A byte of the medium's own is that capital letter.
+pub fn is_letter(how: Reading, b: u8, c: u8) -> bool
+    requires { ⌜ (65 ≤ c) × (c ≤ 90) ⌝ }
+    ensures value { λ t. ⌜ t ≡ eqb (mediumOf how .charOf b) c ⌝ }
 {
-    let mut m: u8 = 0;
-    let mut c = 0;
-    while c < 80 {
-        m = greater(m, f[at + c]);
-        c += 1;
+    let m = how.medium;
+    match m {
+        Medium::Disc => b == c,
+        Medium::Tape => b == page::capital(c),
     }
-    m <= 94
 }
 
 // Line k has no byte outside its range.
@@ -156,14 +226,22 @@ fn is_clean(how: Reading, f: &[u8], k: usize) -> bool
     requires { ⌜ k < sheetOf how (now f) .count ⌝ }
     ensures value { λ t. ⌜ (t ≡ true → strayOf (sheetOf how (now (f .entry))) k ≡ 0) ⌝ }
 {
-    let at = stride(how) * k;
-    if f[at + 80] != 13 {
-        return false;
+    let m = how.medium;
+    match m {
+        Medium::Disc => proper::all_proper(f, 82 * k),
+        Medium::Tape => page::all_taken(page::translated(columns(f, 80 * k))),
     }
-    if f[at + 81] != 10 {
-        return false;
+}
+
+// What a byte in column c of a line may be.
+fn takes(how: Reading, c: usize, b: u8) -> bool
+    ensures value { λ t. ⌜ t ≡ mediumOf how .takes c b ⌝ }
+{
+    let m = how.medium;
+    match m {
+        Medium::Disc => proper::byte_fits(c, b),
+        Medium::Tape => page::char_of(b) != 0,
     }
-    all_printed(f, at)
 }
 
 // 3 of line k, column by column.
@@ -175,7 +253,7 @@ fn first_stray(how: Reading, f: &[u8], k: usize) -> u8
     let at = w * k;
     let mut c: usize = 0;
     while c < w {
-        if !byte_fits(c + 1, f[at + c]) {
+        if !takes(how, c + 1, f[at + c]) {
             return c as u8 + 1;
         }
         c += 1;

@@ -1,5 +1,5 @@
 -- `form::form` meets its contract. Assumes nothing.
-use Rattle.form.proofs.Laws.{few-lines, goes-on, grouped, is-met, stops-at}
+use Rattle.form.proofs.Laws.{few-lines, goes-on, is-met, stops-at, three-grouped}
 use Rattle.rules.specs.Form.{form}
 use mathlib.Core.Path.{_∙_}
 use borrow.Author.Needs.{needs}
@@ -14,7 +14,7 @@ enum-told c = search needs
 
 returns : tie.Need-returns
 unfolding form
-returns c = stops-at _ _ (c .before .before .length-fits .ensures) (c .enum-told .given .1) _ ∙ grouped _ _ _
+returns c = stops-at _ _ (c .before .before .length-fits .ensures) (c .enum-told .given .1) _ ∙ three-grouped _ _ _ _
 
 enum-told-2 : tie.Need-enum-told-2
 enum-told-2 c = search needs
@@ -26,7 +26,7 @@ returns-2 : tie.Need-returns-2
 unfolding form
 returns-2 c =
     goes-on _ _ (c .before .before .before .length-fits .ensures) (c .before .enum-told2 .given .1) _ (c .lines-fit .result) (c .lines-fit .ensures)
-    ∙ grouped _ _ _
+    ∙ three-grouped _ _ _ _
 
 pub form-spec : {M : Type 1} → statement M
 form-spec =

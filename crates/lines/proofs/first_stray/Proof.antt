@@ -1,3 +1,4 @@
+-- `lines::first_stray` meets its contract. Assumes nothing.
 use Prim.Native.Nat.{_+_, _-_, _≤_}
 use native.Mathlib.Nat.{add-zero, sub-zero}
 use native.Mathlib.Omega.{arith}
@@ -5,7 +6,7 @@ use mathlib.Core.Path.{_≡_, _∙_}
 use lib.ListN.{take, drop}
 use borrow.Author.Needs.{needs}
 use borrow.Author.Tests.{not-true, not-false}
-use Rattle.rules.specs.Disc.{byteFits}
+use Rattle.lines.specs.Reading.{mediumOf}
 use Rattle.rules.specs.Form.{strayFrom}
 use Rattle.lines.proofs.Laws.{stray-end, stray-stop, stray-step}
 use Rattle.lines.proofs.Sheets.{place, stray-from}
@@ -13,10 +14,11 @@ use Rattle.lines.proofs.first_stray.Statement.{statement}
 use Rattle.lines.proofs.first_stray.Tie as tie
 
 abbrev Inv-loop : tie.InvT-loop
-Inv-loop f k w at c₀ c = (c ≤ w) × (strayFrom byteFits (c + 1) (take (w - c) (drop (at + c) f)) ≡ strayFrom byteFits 1 (take w (drop at f)))
+Inv-loop how f k w at c₀ c =
+    (c ≤ w) × (strayFrom (mediumOf how .takes) (c + 1) (take (w - c) (drop (at + c) f)) ≡ strayFrom (mediumOf how .takes) 1 (take w (drop at f)))
 
 abbrev μ-loop : tie.MeasureT-loop
-μ-loop f k w at c₀ c = w - c
+μ-loop how f k w at c₀ c = w - c
 
 stride-requires : tie.Need-stride-requires Inv-loop μ-loop
 stride-requires c κs = search needs
@@ -29,21 +31,21 @@ mul-at c =
 loop-holds : tie.Need-loop-holds Inv-loop μ-loop
 loop-holds c = (omega arith, rw (add-zero, sub-zero))
 
-add-byte-fits : tie.Need-add-byte-fits Inv-loop μ-loop
-add-byte-fits c = search needs
+add-takes : tie.Need-add-takes Inv-loop μ-loop
+add-takes c = search needs
 
-add-byte-fits-2 : tie.Need-add-byte-fits-2 Inv-loop μ-loop
-add-byte-fits-2 c =
+add-takes-2 : tie.Need-add-takes-2 Inv-loop μ-loop
+add-takes-2 c =
     let a = c .before .before .before .before .args in
     omega (arith, place (a .how) _ (c .before .before .stride .ensures) (a .f .now) (a .k) (c .before .before .before .before .pre))
 
-shared-slice-read-byte-fits : tie.Need-shared-slice-read-byte-fits Inv-loop μ-loop
-shared-slice-read-byte-fits c =
+shared-slice-read-takes : tie.Need-shared-slice-read-takes Inv-loop μ-loop
+shared-slice-read-takes c =
     let a = c .before .before .before .before .before .args in
     omega (arith, place (a .how) _ (c .before .before .before .stride .ensures) (a .f .now) (a .k) (c .before .before .before .before .before .pre))
 
-byte-fits-requires : tie.Need-byte-fits-requires Inv-loop μ-loop
-byte-fits-requires c κs = search needs
+takes-requires : tie.Need-takes-requires Inv-loop μ-loop
+takes-requires c κs = search needs
 
 cast-result : tie.Need-cast-result Inv-loop μ-loop
 cast-result c =
@@ -64,7 +66,7 @@ returns c =
     let a = b .args in
     let s = c .before .before .before .before .before .stride .ensures in
     let l = place (a .how) _ s (a .f .now) (a .k) (b .pre) in
-    stray-stop (a .f .now) _ _ (at .c) _ (at .inv .1) (omega arith) (l .1) _ (c .before .byte-fits .ensures) (not-true _ (c .if1 .taken))
+    stray-stop (mediumOf (a .how) .takes) (a .f .now) _ _ (at .c) _ (at .inv .1) (omega arith) (l .1) _ (c .before .takes .ensures) (not-true _ (c .if1 .taken))
     ∙ stray-from (a .how) _ s (a .f .now) (a .k)
 
 add-c : tie.Need-add-c Inv-loop μ-loop
@@ -79,13 +81,13 @@ loop-again c =
     let b = c .before .before .before .before .before .before .before in
     let a = b .args in
     let l = place (a .how) _ (c .before .before .before .before .before .stride .ensures) (a .f .now) (a .k) (b .pre) in
-    (omega arith, stray-step (a .f .now) _ _ (at .c) _ (at .inv .1) (omega arith) (l .1) _ (c .before .byte-fits .ensures) (not-false _ (c .if1 .left)))
+    (omega arith, stray-step (mediumOf (a .how) .takes) (a .f .now) _ _ (at .c) _ (at .inv .1) (omega arith) (l .1) _ (c .before .takes .ensures) (not-false _ (c .if1 .left)))
 
 returns-2 : tie.Need-returns-2 Inv-loop μ-loop
 returns-2 c =
     let at = c .before .loop in
     let a = c .before .before .before .before .args in
-    stray-end (a .f .now) _ _ (at .c) _ (at .inv .1) (omega arith) ∙ stray-from (a .how) _ (c .before .before .stride .ensures) (a .f .now) (a .k)
+    stray-end (mediumOf (a .how) .takes) (a .f .now) _ _ (at .c) _ (at .inv .1) (omega arith) ∙ stray-from (a .how) _ (c .before .before .stride .ensures) (a .f .now) (a .k)
 
 pub first-stray-spec : {M : Type 1} → statement M
 first-stray-spec =
@@ -96,10 +98,10 @@ first-stray-spec =
     stride-requires
     mul-at
     loop-holds
-    add-byte-fits
-    add-byte-fits-2
-    shared-slice-read-byte-fits
-    byte-fits-requires
+    add-takes
+    add-takes-2
+    shared-slice-read-takes
+    takes-requires
     cast-result
     add-result
     returns

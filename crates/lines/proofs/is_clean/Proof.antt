@@ -1,69 +1,68 @@
+-- `lines::is_clean` meets its contract. Assumes nothing.
 use native.Mathlib.Omega.{arith}
 use borrow.Author.Needs.{needs}
-use Rattle.rules.proofs.Tests.{clash}
-use Rattle.lines.proofs.Laws.{proper-all}
-use Rattle.lines.proofs.Sheets.{place, clean-from}
+use Rattle.lines.proofs.CodePage.{no-gap-taken}
+use Rattle.lines.proofs.Sheets.{disc-place, disc-clean, tape-place, tape-clean}
 use Rattle.lines.proofs.is_clean.Statement.{statement}
 use Rattle.lines.proofs.is_clean.Tie as tie
 
-stride-requires : tie.Need-stride-requires
-stride-requires c κs = search needs
+enum-told : tie.Need-enum-told
+enum-told c = search needs
 
-mul-at : tie.Need-mul-at
-mul-at c =
-    let a = c .before .before .args in
-    omega (arith, place (a .how) _ (c .stride .ensures) (a .f .now) (a .k) (c .before .before .pre))
+mul-all-proper : tie.Need-mul-all-proper
+mul-all-proper c =
+    let b = c .before .before .before in
+    omega (arith, disc-place (b .args .how) (c .enum-told .given .1) (b .args .f .now) (b .args .k) (b .pre))
 
-add-if1 : tie.Need-add-if1
-add-if1 c =
-    let a = c .before .before .args in
-    omega (arith, place (a .how) _ (c .stride .ensures) (a .f .now) (a .k) (c .before .before .pre))
+all-proper-requires : tie.Need-all-proper-requires
+all-proper-requires c κs =
+    let b = c .before .before .before in
+    omega (arith, disc-place (b .args .how) (c .enum-told .given .1) (b .args .f .now) (b .args .k) (b .pre))
 
-shared-slice-read-if1 : tie.Need-shared-slice-read-if1
-shared-slice-read-if1 c =
-    let a = c .before .before .before .args in
-    omega (arith, place (a .how) _ (c .before .stride .ensures) (a .f .now) (a .k) (c .before .before .before .pre))
+enum-told-2 : tie.Need-enum-told-2
+enum-told-2 c = search needs
+
+mul-columns : tie.Need-mul-columns
+mul-columns c =
+    let b = c .before .before .before in
+    omega (arith, tape-place (b .args .how) (c .enum-told2 .given .1) (b .args .f .now) (b .args .k) (b .pre))
+
+columns-requires : tie.Need-columns-requires
+columns-requires c κs =
+    let b = c .before .before .before in
+    omega (arith, tape-place (b .args .how) (c .enum-told2 .given .1) (b .args .f .now) (b .args .k) (b .pre))
+
+translated-requires : tie.Need-translated-requires
+translated-requires c κs = search needs
+
+all-taken-requires : tie.Need-all-taken-requires
+all-taken-requires c κs = search needs
 
 returns : tie.Need-returns
-returns c = λ t. clash t
-
-add-if2 : tie.Need-add-if2
-add-if2 c =
-    let a = c .before .before .before .before .args in
-    omega (arith, place (a .how) _ (c .before .before .stride .ensures) (a .f .now) (a .k) (c .before .before .before .before .pre))
-
-shared-slice-read-if2 : tie.Need-shared-slice-read-if2
-shared-slice-read-if2 c =
-    let a = c .before .before .before .before .before .args in
-    omega (arith, place (a .how) _ (c .before .before .before .stride .ensures) (a .f .now) (a .k) (c .before .before .before .before .before .pre))
+returns c = λ t.
+    let b = c .before .before .before .before in
+    disc-clean (b .args .how) (c .before .enum-told .given .1) (b .args .f .now) (b .args .k) (b .pre) (c .all-proper .ensures t)
 
 returns-2 : tie.Need-returns-2
-returns-2 c = λ t. clash t
-
-all-printed-requires : tie.Need-all-printed-requires
-all-printed-requires c κs =
-    let b = c .before .before .before .before in
-    let a = b .before .before .args in
-    omega (arith, place (a .how) _ (b .stride .ensures) (a .f .now) (a .k) (b .before .before .pre))
-
-returns-3 : tie.Need-returns-3
-returns-3 c = λ t.
-    let b = c .before .before .before .before .before .before .before in
-    let a = b .args in
-    clean-from (a .how) _ (c .before .before .before .before .before .stride .ensures) (a .f .now) (a .k) (b .pre)
-    (proper-all (a .f .now) _ (c .all-printed .ensures t) (c .before .before .before .if1 .left) (c .before .if2 .left))
+returns-2 c = λ t.
+    let d = c .before .before in
+    let e = d .before in
+    let b = e .before .before .before in
+    let l = d .columns in
+    tape-clean (b .args .how) (e .enum-told2 .given .1) (b .args .f .now) (b .args .k) (b .pre) (l .result) (l .ensures)
+    (no-gap-taken (l .result) _ (search needs) (c .before .translated .ensures) (c .all-taken .ensures t))
 
 pub is-clean-spec : {M : Type 1} → statement M
 is-clean-spec =
     tie.close
     (tie.spec
-    stride-requires
-    mul-at
-    add-if1
-    shared-slice-read-if1
+    enum-told
+    mul-all-proper
+    all-proper-requires
+    enum-told-2
+    mul-columns
+    columns-requires
+    translated-requires
+    all-taken-requires
     returns
-    add-if2
-    shared-slice-read-if2
-    returns-2
-    all-printed-requires
-    returns-3)
+    returns-2)

@@ -1,3 +1,4 @@
+-- `lines::stray` meets its contract. Assumes nothing.
 use mathlib.Core.Path.{sym}
 use borrow.Author.Needs.{needs}
 use Rattle.lines.proofs.stray.Statement.{statement}

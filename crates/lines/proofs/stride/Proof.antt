@@ -1,10 +1,23 @@
-use mathlib.Core.Path.{sym}
-use Rattle.lines.proofs.Sheets.{stride-is}
+-- `lines::stride` meets its contract. Assumes nothing.
+use borrow.Author.Needs.{needs}
+use Rattle.rules.specs.Disc.{disc}
+use Rattle.rules.specs.Tape.{tape}
 use Rattle.lines.proofs.stride.Statement.{statement}
 use Rattle.lines.proofs.stride.Tie as tie
 
+enum-told : tie.Need-enum-told
+enum-told c = search needs
+
+enum-told-2 : tie.Need-enum-told-2
+enum-told-2 c = search needs
+
 returns : tie.Need-returns
-returns c = sym (stride-is (c .args .how))
+unfolding disc
+returns c = rw (c .enum-told .given .1)
+
+returns-2 : tie.Need-returns-2
+unfolding tape
+returns-2 c = rw (c .enum-told2 .given .1)
 
 pub stride-spec : {M : Type 1} → statement M
-stride-spec = tie.close (tie.spec returns)
+stride-spec = tie.close (tie.spec enum-told enum-told-2 returns returns-2)

@@ -1,10 +1,11 @@
+-- `lines::proper::all_printed` meets its contract. Assumes nothing.
 use borrow.Author.Tests.{leb-true}
 use Rattle.lines.proofs.Laws.{PrintedTo, printed-more}
 use Prim.Native.Nat.{_-_, _≤_}
 use native.Mathlib.Omega.{arith}
 use borrow.Author.Needs.{needs}
-use Rattle.lines.proofs.all_printed.Statement.{statement}
-use Rattle.lines.proofs.all_printed.Tie as tie
+use Rattle.lines.proofs.proper.all_printed.Statement.{statement}
+use Rattle.lines.proofs.proper.all_printed.Tie as tie
 
 abbrev Inv-loop : tie.InvT-loop
 Inv-loop f at m₀ c₀ m c = (c ≤ 80) × PrintedTo f at m c

@@ -1,8 +1,9 @@
+-- `lines::proper::byte_fits` meets its contract. Assumes nothing.
 use Rattle.rules.specs.Places.{pick}
 use Rattle.rules.specs.Disc.{byteFits, printable}
 use borrow.Author.Tests.{le-leb, lt-leb, eq-eqb, ne-eqb}
-use Rattle.lines.proofs.byte_fits.Statement.{statement}
-use Rattle.lines.proofs.byte_fits.Tie as tie
+use Rattle.lines.proofs.proper.byte_fits.Statement.{statement}
+use Rattle.lines.proofs.proper.byte_fits.Tie as tie
 
 returns : tie.Need-returns
 unfolding byteFits printable pick

@@ -1,0 +1,30 @@
+-- `lines::takes` meets its contract. Assumes nothing.
+use borrow.Author.Needs.{needs}
+use Rattle.rules.specs.Disc.{disc}
+use Rattle.rules.specs.Tape.{tape}
+use Rattle.lines.proofs.CodePage.{taken-is}
+use Rattle.lines.proofs.takes.Statement.{statement}
+use Rattle.lines.proofs.takes.Tie as tie
+
+enum-told : tie.Need-enum-told
+enum-told c = search needs
+
+byte-fits-requires : tie.Need-byte-fits-requires
+byte-fits-requires c κs = search needs
+
+enum-told-2 : tie.Need-enum-told-2
+enum-told-2 c = search needs
+
+char-of-requires : tie.Need-char-of-requires
+char-of-requires c κs = search needs
+
+returns : tie.Need-returns
+unfolding disc
+returns c = rw (c .before .enum-told .given .1) (c .byte-fits .ensures)
+
+returns-2 : tie.Need-returns-2
+unfolding tape
+returns-2 c = rw (c .before .enum-told2 .given .1) (taken-is _ _ (c .char-of .ensures))
+
+pub takes-spec : {M : Type 1} → statement M
+takes-spec = tie.close (tie.spec enum-told byte-fits-requires enum-told-2 char-of-requires returns returns-2)
