@@ -7,24 +7,25 @@ use native.Mathlib.Omega.{arith}
 use mathlib.Core.Path.{_≡_, refl, sym, subst}
 use mathlib.Core.Bool.{Bool, true, false}
 use mathlib.Core.List.{List, [], _∷_}
-use lib.Dec.{ltb, lit≤}
+use lib.Dec.{eqb, ltb, lit≤}
 use lib.ListN.{length, getD, drop, replicate}
 use borrow.Author.Tests.{ltb-true}
 use Rattle.rules.specs.Places.{pick}
-use Rattle.rules.specs.Text.{cols}
+use Rattle.rules.specs.Text.{col, cols}
 use Rattle.rules.specs.Layout.{Layout, Span, at}
 use Rattle.rules.specs.Sheet.{Sheet}
 use Rattle.rules.proofs.Columns.{cols-length}
 use Rattle.fields.specs.Packed.{packed}
 use Rattle.fields.specs.Texts.{Small, Long}
-use Rattle.fields.specs.Figures.{figuresAfter, figures}
+use Rattle.fields.specs.Figures.{figuresAfter, figures, lowIndex}
 use Rattle.fields.proofs.Packed.{name-lo}
 use Rattle.fields.proofs.Texts.{cols-long, packed-below}
 use Rattle.fields.proofs.LowHalves.{Room, room-none, room-more, room-eight}
-use Rattle.form.specs.Known.{Columns, AtMost, Shape, Known}
-use Rattle.form.proofs.Known.{index-small}
+use Rattle.form.specs.Known.{Columns, AtMost, Shape, owned, Known}
+use Rattle.form.proofs.Known.{long-at}
 use Rattle.keys.specs.Keys.{noLine, lineAt, keyOf, receiverKey}
 use Rattle.keys.specs.Keyed.{keyAt}
+use Rattle.keys.proofs.Owned.{own-small}
 use Rattle.keys.specs.declared.By.{By}
 use Rattle.keys.specs.declared.By.the-variants.{Points, Receivers, Records}
 
@@ -50,6 +51,9 @@ last-small l s p w =
     rw (e, name-lo l a (w .0))
     (packed-below 8 0 0 (cols l (a + 8) (a + 15)) (subst (λ (b : ℕ). Long 8 (cols l (a + 8) b)) z (cols-long l s 8 (a + 8) (omega arith))) (lit≤ tt))
 
+tape-small : (l : List ℕ) → Small l → (p : Span) → Columns 6 p → packed (at l p) < 18446744073709551616
+tape-small l s p w = let b = packed-below 6 0 0 (at l p) (long-at l s p 6 w) (lit≤ tt) in omega arith
+
 zeros : (n c : ℕ) → _≡_ {A = ℕ} (getD (replicate n 0) c 0) 0
 zeros zero c = refl
 zeros (suc n) zero = refl
@@ -63,31 +67,39 @@ picked-small false l g = λ c. subst (λ (n : ℕ). n < 256) (sym (zeros 80 c)) 
 abbrev Fits : ℕ → Type 0
 Fits n = n < 18446744073709551616
 
+index-low : (bs : List ℕ) → lowIndex bs < 16
+unfolding lowIndex pick
+index-low bs = go (eqb (col bs 1 % 16) 0) (col bs 1)
+  where
+    go : (t : Bool) (b : ℕ) → pick t 1 (b % 16) < 16
+    go true b = lit≤ tt
+    go false b = omega arith
+
 line-fits : (L : Layout) → Shape L → (l : List ℕ) → Small l → (t : By) → Fits (keyOf t L l .second) × Fits (keyOf t L l .third)
 unfolding keyOf
 line-fits L w l s Points =
     let a = figures-small l (L .point) (w .point) in
-    let b = index-small l s (L .index) (w .index) in
+    let b = index-low (at l (L .index)) in
     (last-small l s (L .name) (w .name), omega arith)
 line-fits L w l s Receivers =
     let a = figures-small l (L .point) (w .point) in
-    let b = index-small l s (L .index) (w .index) in
+    let b = index-low (at l (L .index)) in
     (last-small l s (L .name) (w .name), omega arith)
-line-fits L w l s Records = let a = figures-small l (L .number) (w .number) in (omega arith, lit≤ tt)
+line-fits L w l s Records = (tape-small l s (L .tape) (w .tape), lit≤ tt)
 
 module _ (i : ℕ) (f : Sheet) (w : Known i f) (k : ℕ) where
   line-small : Small (lineAt f k)
   unfolding lineAt
-  line-small = picked-small (ltb k (f .count)) (f .row k) (λ t. w .clean k (ltb-true k (f .count) t))
+  line-small = picked-small (ltb k (f .count)) (owned f k) (λ t. own-small i f w k (ltb-true k (f .count) t))
 
   pub key-small : (t : By) → (keyAt t f k .second < 18446744073709551616) × (keyAt t f k .third < 18446744073709551616)
   unfolding keyAt
   key-small t = line-fits (f .layout) (w .shape) (lineAt f k) line-small t
 
   pub asked-small : k < f .count → (n : ℕ) → n < 4294967296
-      → (receiverKey (f .layout) (f .row k) n .second < 18446744073709551616)
-      × (receiverKey (f .layout) (f .row k) n .third < 18446744073709551616)
+      → (receiverKey (f .layout) (owned f k) n .second < 18446744073709551616)
+      × (receiverKey (f .layout) (owned f k) n .third < 18446744073709551616)
   unfolding receiverKey
   asked-small h n l =
-      let i = index-small (f .row k) (w .clean k h) (f .layout .receiverIndex) (w .shape .receiverIndex) in
-      (last-small (f .row k) (w .clean k h) (f .layout .receiver) (w .shape .receiver), omega arith)
+      let b = index-low (at (owned f k) (f .layout .receiverIndex)) in
+      (last-small (owned f k) (own-small i f w k h) (f .layout .receiver) (w .shape .receiver), omega arith)

@@ -1,7 +1,10 @@
 pub mod Halves
 pub mod Compared
 pub mod Lines
+pub mod Letters
+pub mod Owned
 pub mod Passed
+pub mod Read
 pub mod Named
 pub mod Points
 pub mod Records

@@ -11,16 +11,18 @@ use Rattle.rules.specs.Places.{pick}
 use Rattle.rules.specs.Layout.{sps93}
 use Rattle.rules.specs.Sheet.{Sheet}
 use Rattle.rules.specs.Lines.{isData, isPoint}
-use Rattle.lines.specs.Reading.{sheetOf}
+use Rattle.rules.specs.Names.{ranked}
+use Rattle.lines.specs.Reading.{mediumOf, sheetOf}
 use Rattle.lines.specs.declared.Reading.{Reading}
-use Rattle.lines.proofs.Sheets.{layout-is}
+use Rattle.lines.proofs.Sheets.{layout-is, row-own}
+use Rattle.form.specs.Known.{owned}
 use Rattle.keys.specs.Keys.{lineAt, isPointLine, takesLine, keyOf}
 use Rattle.keys.specs.Keyed.{takesAt, keyAt}
 use Rattle.keys.specs.declared.By.{By}
 use Rattle.keys.specs.declared.By.the-variants.{Points, Receivers, Records}
 
 module _ (f : Sheet) (k : ℕ) (h : k < f .count) where
-  pub key-below : (t : By) → keyAt t f k ≡ keyOf t (f .layout) (f .row k)
+  pub key-below : (t : By) → keyAt t f k ≡ keyOf t (f .layout) (owned f k)
   unfolding keyAt lineAt pick
   key-below t = rw (lt-ltb k (f .count) h)
 
@@ -45,6 +47,7 @@ module _ (how : Reading) (f : List ℕ) (t : By) (k : ℕ) where
   unfolding keyAt
   key-line l e = rw (e, layout-is how f)
 
-  pub takes-line : (l : List ℕ) → k < sheetOf how f .count → l ≡ sheetOf how f .row k → takesLine t sps93 l ≡ takesAt t (sheetOf how f) k
+  pub takes-line : (l : List ℕ) → k < sheetOf how f .count → l ≡ owned (sheetOf how f) k
+      → takesLine t sps93 (ranked (mediumOf how .charOf) l) ≡ takesAt t (sheetOf how f) k
   unfolding takesAt
-  takes-line l h e = rw (e, layout-is how f, lt-ltb k (sheetOf how f .count) h)
+  takes-line l h e = rw (e, ← row-own how f k, layout-is how f, lt-ltb k (sheetOf how f .count) h)

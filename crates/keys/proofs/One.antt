@@ -1,5 +1,7 @@
 -- The contracts of this crate leave one outcome: for every public function, any two results that meet its contract are the same.
 use Rattle.outcome.specs.One.{One, alike}
+use Rattle.keys.proofs.precedes as precedes
+use Rattle.keys.proofs.precedes.Reads as precedes-reads
 use Rattle.keys.proofs.takes as takes
 use Rattle.keys.proofs.takes.Reads as takes-reads
 use Rattle.keys.proofs.key_of as key-of
@@ -47,6 +49,9 @@ below-one κs a v v′ w w′ = alike
 
 pub less-one : One less.ended less-reads.Post
 less-one κs a v v′ w w′ = alike
+
+pub precedes-one : One precedes.ended precedes-reads.Post
+precedes-one κs a v v′ w w′ = alike
 
 pub shot-key-one : One shot-key.ended shot-key-reads.Post
 shot-key-one κs a v v′ w w′ = alike

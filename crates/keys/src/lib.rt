@@ -1,20 +1,21 @@
 // The keys of lines: three numbers, read from the text where two lines are compared. By them lines are put in order and found again;
-// nothing is kept of a line but its number. Of a line that the form check has passed a key says what its fields say.
+// nothing is kept of a line but its number. Keys are read in the medium's own bytes, so that no line is translated for them and names are in
+// the medium's order; of a line that the form check has passed a key says what its fields say.
 ghost use mathlib.Core.Path.{_≡_};
 ghost use Prim.Native.Nat.{_<_};
 ghost use Rattle.rules.specs.Layout.{sps93};
 ghost use Rattle.lines.specs.Reading.{sheetOf};
+ghost use Rattle.form.specs.Known.{owned};
 ghost use Rattle.keys.specs.Keys.{lineAt, shotKey, receiverKey};
 ghost use Rattle.keys.specs.Compare.{sameKey, lessOr};
 ghost use Rattle.keys.specs.Keyed.{takesIn, keysIn, holdsKey};
 use fields::figures;
 use fields::names;
 use lines::Reading;
-use records::relation;
 
 mod parts;
 
-// What lines are compared by: points by name, number and index; receivers by name, index and number; relation lines by tape and record.
+// What lines are compared by: points by name, number and index; receivers by name, index and number; relation lines by record and tape.
 pub enum By {
     Points,
     Receivers,
@@ -34,12 +35,12 @@ pub struct Key {
     pub third: u64,
 }
 
-// Line k, or 80 columns that hold nothing.
+// Line k in the medium's own bytes, or 80 columns that hold nothing.
 fn line_at(how: Reading, f: &[u8], k: usize) -> [u8; 80]
     ensures value { λ l. ⌜ l ≡ lineAt (sheetOf how (now (f .entry))) k ⌝ }
 {
     if k < lines::line_count(how, f) {
-        return lines::line_of(how, f, k);
+        return lines::own_of(how, f, k);
     }
     [0; 80]
 }
@@ -53,7 +54,7 @@ pub fn takes(z: Keyed, f: &[u8], k: usize) -> bool
     if lines::line_count(how, f) <= k {
         return false;
     }
-    parts::takes(by, &lines::line_of(how, f, k))
+    parts::takes(how, by, &lines::own_of(how, f, k))
 }
 
 // The key of line k.
@@ -125,6 +126,22 @@ pub fn below(z: Keyed, f: &[u8], k: usize, y: Key, tie: bool) -> bool
     tie
 }
 
+// a is below b by the first number that differs; where none does, what `tie` says.
+pub fn precedes(a: Key, b: Key, tie: bool) -> bool
+    ensures value { λ t. ⌜ t ≡ lessOr a b tie ⌝ }
+{
+    if a.first != b.first {
+        return a.first < b.first;
+    }
+    if a.second != b.second {
+        return a.second < b.second;
+    }
+    if a.third != b.third {
+        return a.third < b.third;
+    }
+    tie
+}
+
 // The key of line j is below that of line k; where they are the same, what `tie` says.
 pub fn less(z: Keyed, f: &[u8], j: usize, k: usize, tie: bool) -> bool
     ensures value { λ t. ⌜ t ≡ lessOr (keysIn z (now (f .entry)) j) (keysIn z (now (f .entry)) k) tie ⌝ }
@@ -135,25 +152,27 @@ pub fn less(z: Keyed, f: &[u8], j: usize, k: usize, tie: bool) -> bool
 // The key by which the shot of relation line k stands in S.
 pub fn shot_key(how: Reading, x: &[u8], k: usize) -> Key
     requires { ⌜ k < sheetOf how (now x) .count ⌝ }
-    ensures value { λ y. ⌜ y ≡ shotKey sps93 (sheetOf how (now (x .entry)) .row k) ⌝ }
+    ensures value { λ y. ⌜ y ≡ shotKey sps93 (owned (sheetOf how (now (x .entry))) k) ⌝ }
 {
-    let l = lines::line_of(how, x, k);
+    let l = lines::own_of(how, x, k);
+    let third = 256 * figures::number(&l, 30, 37) + figures::index(&l, 38);
     Key {
         first: names::pack(&l, 14, 21),
         second: names::pack(&l, 22, 29),
-        third: 256 * figures::number(&l, 30, 37) + relation::index_at(&l, 38) as u64,
+        third,
     }
 }
 
 // The key by which receiver number n of a relation line stands in R.
 pub fn receiver_key(how: Reading, x: &[u8], k: usize, n: u32) -> Key
     requires { ⌜ k < sheetOf how (now x) .count ⌝ }
-    ensures value { λ y. ⌜ y ≡ receiverKey sps93 (sheetOf how (now (x .entry)) .row k) n ⌝ }
+    ensures value { λ y. ⌜ y ≡ receiverKey sps93 (owned (sheetOf how (now (x .entry))) k) n ⌝ }
 {
-    let l = lines::line_of(how, x, k);
+    let l = lines::own_of(how, x, k);
+    let third = 4294967296 * figures::index(&l, 80) + n as u64;
     Key {
         first: names::pack(&l, 48, 55),
         second: names::pack(&l, 56, 63),
-        third: 4294967296 * (relation::index_at(&l, 80) as u64) + n as u64,
+        third,
     }
 }

@@ -1,31 +1,50 @@
-// The three numbers of a line's key, each by itself, so that those which decide nothing are not read.
+// The three numbers of a line's key, each by itself, so that those which decide nothing are not read. A line is in the medium's own bytes.
 ghost use mathlib.Core.Path.{_≡_};
 ghost use Rattle.rules.specs.Layout.{sps93};
+ghost use Rattle.rules.specs.Lines.{isHeader, isMarker};
+ghost use Rattle.rules.specs.Names.{ranked};
+ghost use Rattle.lines.specs.Reading.{mediumOf};
 ghost use Rattle.keys.specs.Keys.{isPointLine, takesLine, keyOf};
 use crate::By;
 use fields::figures;
 use fields::names;
-use records::fits;
-use records::relation;
+use lines::Reading;
+
+// H in column 1.
+fn is_header(how: Reading, l: &[u8; 80]) -> bool
+    ensures value { λ t. ⌜ t ≡ isHeader (ranked (mediumOf how .charOf) (now (l .entry))) ⌝ }
+{
+    lines::is_letter(how, l[0], b'H')
+}
+
+// PM in columns 27-28.
+fn is_marker(how: Reading, l: &[u8; 80]) -> bool
+    ensures value { λ t. ⌜ t ≡ isMarker sps93 (ranked (mediumOf how .charOf) (now (l .entry))) ⌝ }
+{
+    if lines::is_letter(how, l[26], b'P') {
+        return lines::is_letter(how, l[27], b'M');
+    }
+    false
+}
 
 // A receiver or a shot: no header line and no marker.
-fn is_point(l: &[u8; 80]) -> bool
-    ensures value { λ t. ⌜ t ≡ isPointLine sps93 (now (l .entry)) ⌝ }
+fn is_point(how: Reading, l: &[u8; 80]) -> bool
+    ensures value { λ t. ⌜ t ≡ isPointLine sps93 (ranked (mediumOf how .charOf) (now (l .entry))) ⌝ }
 {
-    if fits::is_header(l) {
+    if is_header(how, l) {
         return false;
     }
-    !fits::is_marker(l)
+    !is_marker(how, l)
 }
 
 // Whether a line has a key.
-pub fn takes(by: By, l: &[u8; 80]) -> bool
-    ensures value { λ t. ⌜ t ≡ takesLine by sps93 (now (l .entry)) ⌝ }
+pub fn takes(how: Reading, by: By, l: &[u8; 80]) -> bool
+    ensures value { λ t. ⌜ t ≡ takesLine by sps93 (ranked (mediumOf how .charOf) (now (l .entry))) ⌝ }
 {
     match by {
-        By::Points => is_point(l),
-        By::Receivers => is_point(l),
-        By::Records => !fits::is_header(l),
+        By::Points => is_point(how, l),
+        By::Receivers => is_point(how, l),
+        By::Records => !is_header(how, l),
     }
 }
 
@@ -35,7 +54,7 @@ pub fn first(by: By, l: &[u8; 80]) -> u64
     match by {
         By::Points => names::pack(l, 2, 9),
         By::Receivers => names::pack(l, 2, 9),
-        By::Records => names::pack(l, 2, 7),
+        By::Records => figures::number(l, 8, 11),
     }
 }
 
@@ -45,7 +64,7 @@ pub fn second(by: By, l: &[u8; 80]) -> u64
     match by {
         By::Points => names::pack(l, 10, 17),
         By::Receivers => names::pack(l, 10, 17),
-        By::Records => figures::number(l, 8, 11),
+        By::Records => names::pack(l, 2, 7),
     }
 }
 
@@ -53,9 +72,8 @@ pub fn third(by: By, l: &[u8; 80]) -> u64
     ensures value { λ n. ⌜ n ≡ keyOf by sps93 (now (l .entry)) .third ⌝ }
 {
     match by {
-        By::Points => 256 * figures::number(l, 18, 25) + relation::index_at(l, 26) as u64,
-        By::Receivers => 4294967296 * (relation::index_at(l, 26) as u64)
-            + figures::number(l, 18, 25),
+        By::Points => 256 * figures::number(l, 18, 25) + figures::index(l, 26),
+        By::Receivers => 4294967296 * figures::index(l, 26) + figures::number(l, 18, 25),
         By::Records => 0,
     }
 }

@@ -2,38 +2,23 @@
 use Prim.Native.Nat.{ℕ}
 use mathlib.Core.Path.{_≡_, refl, sym, ap, ap₂, _∙_}
 use mathlib.Core.Bool.{Bool, true, false, _&&_}
-use mathlib.Core.List.{List}
 use lib.Dec.{eqb}
 use borrow.Author.Tests.{eq-eqb, ne-eqb}
-use Rattle.rules.specs.Text.{col, cols}
-use Rattle.rules.specs.Kinds.{indexOf}
 use Rattle.rules.specs.Names.{sameName}
-use Rattle.rules.specs.Layout.{Layout, sps93, at}
+use Rattle.rules.specs.Layout.{Layout, sps93}
 use Rattle.rules.specs.Sheet.{Sheet}
-use Rattle.rules.specs.Points.{indexAt}
-use Rattle.rules.specs.Relations.{Relation, relation, relationAt}
+use Rattle.rules.specs.Relations.{Relation, relationAt}
 use Rattle.rules.specs.Order.{sameShot}
-use Rattle.form.specs.Known.{Known}
-use Rattle.form.proofs.Known.{source-wide, shot-index}
+use Rattle.form.specs.Known.{owned, Known}
 use Rattle.keys.specs.Compare.{sameKey}
 use Rattle.keys.specs.Keys.{shotKey}
 use Rattle.keys.specs.Held.{RelationLine}
 use Rattle.keys.specs.declared.Key.{Key}
 use Rattle.keys.proofs.Compared.{first-other, second-other, third-same}
-use Rattle.keys.proofs.Named.{by-number}
-use Rattle.keys.proofs.Points.{asked-shot}
+use Rattle.keys.proofs.Points.{shots-same}
 use Rattle.mates.specs.Records.{sameSet}
 
--- the increment and the instrument, as they are read
-module _ (x : Sheet) (z : x .layout ≡ sps93) (k : ℕ) (l : List ℕ) (e : l ≡ x .row k) (n : ℕ) where
-  pub increment-read : n ≡ indexOf (col (cols l 12 12) 1) → n ≡ relationAt x k .increment
-  unfolding relationAt relation indexAt at sps93
-  increment-read p = p ∙ (rw (e, z))
-
-  pub instrument-read : n ≡ indexOf (col (cols l 13 13) 1) → n ≡ relationAt x k .instrument
-  unfolding relationAt relation indexAt at sps93
-  instrument-read p = p ∙ (rw (e, z))
-
+-- the increment and the instrument
 module _ (v w : Relation) (m n : ℕ) (p : m ≡ v .increment) (q : n ≡ w .increment) where
   pub other-increment : (m ≡ n → ⊥) → false ≡ sameSet v w
   unfolding sameSet
@@ -50,25 +35,15 @@ regroup false b c d e = refl
 
 -- the key of the shot, and the rest
 module _ (x : Sheet) (z : x .layout ≡ sps93) (w : Known 3 x) (k j : ℕ) (h : RelationLine x k) (g : RelationLine x j) (a b : Key) where
-  shots-same : sameKey (shotKey (x .layout) (x .row k)) (shotKey (x .layout) (x .row j))
-      ≡ (sameName (relationAt x k .source) (relationAt x j .source)
-      && (eqb (relationAt x k .shot) (relationAt x j .shot) && eqb (relationAt x k .shotIndex) (relationAt x j .shotIndex)))
-  shots-same =
-      let u = relationAt x k in
-      let v = relationAt x j in
-      rw (asked-shot x w k (h .0) (h .1), asked-shot x w j (g .0) (g .1))
-      (by-number (u .source) (v .source) (source-wide 3 x w k (h .0)) (source-wide 3 x w j (g .0)) (u .shot) (u .shotIndex)
-      (v .shot) (v .shotIndex) (shot-index 3 x w k (h .0)) (shot-index 3 x w j (g .0)))
-
-  module _ (p : a ≡ shotKey sps93 (x .row k)) (q : b ≡ shotKey sps93 (x .row j)) where
+  module _ (p : a ≡ shotKey sps93 (owned x k)) (q : b ≡ shotKey sps93 (owned x j)) where
     alike : sameShot (relationAt x k) (relationAt x j) ≡ (sameKey a b && sameSet (relationAt x k) (relationAt x j))
     unfolding sameShot sameSet
     alike =
-        let y = ap (λ (L : Layout). shotKey L (x .row k)) (sym z) in
-        let i = ap (λ (L : Layout). shotKey L (x .row j)) (sym z) in
+        let y = ap (λ (L : Layout). shotKey L (owned x k)) (sym z) in
+        let i = ap (λ (L : Layout). shotKey L (owned x j)) (sym z) in
         let u = relationAt x k in
         let v = relationAt x j in
-        rw (ap₂ sameKey (p ∙ y) (q ∙ i) ∙ shots-same)
+        rw (ap₂ sameKey (p ∙ y) (q ∙ i) ∙ shots-same x w k (h .0) (h .1) j (g .0) (g .1))
         (regroup (sameName (u .source) (v .source)) (eqb (u .shot) (v .shot)) (eqb (u .shotIndex) (v .shotIndex))
         (eqb (u .increment) (v .increment)) (eqb (u .instrument) (v .instrument)))
 

@@ -5,17 +5,13 @@ use native.Mathlib.Omega.{arith}
 use mathlib.Core.Path.{_≡_, refl, sym, ap, ap₂, _∙_}
 use mathlib.Core.Logic.{⊎-elim}
 use mathlib.Core.Bool.{Bool, true, false, not, _&&_, _||_, or-true, and-true}
-use mathlib.Core.List.{List}
 use lib.Dec.{ltb}
 use borrow.Author.Tests.{lt-ltb, le-ltb}
 use Rattle.rules.specs.Places.{every, some, least, ifBefore, isBefore}
 use Rattle.rules.specs.Plan.{fine, refused, №, run}
-use Rattle.rules.specs.Text.{cols}
-use Rattle.rules.specs.Numbers.{size, whole}
-use Rattle.rules.specs.Layout.{Layout, sps93, at}
+use Rattle.rules.specs.Layout.{Layout, sps93}
 use Rattle.rules.specs.Sheet.{Sheet}
-use Rattle.rules.specs.Points.{numberOf}
-use Rattle.rules.specs.Relations.{relationAt, reach, reachAt}
+use Rattle.rules.specs.Relations.{relationAt, reachAt}
 use Rattle.rules.specs.Reaches.{reachesOf, mates, together, rises}
 use Rattle.rules.specs.Order.{sameShot, rule16, rule17}
 use Rattle.rules.proofs.Tests.{clash, and-is, imp-is, every-is, some-is}
@@ -57,29 +53,20 @@ module _ (x : Sheet) (k : ℕ) where
       unfolding rule16 sps93
       sixteen-changed s z = rw (← (ap (λ (L : Layout). L .tape .first) z)) (need-broken _ _ (held ∙ s))
 
-    module _ (z : x .layout ≡ sps93) (l m : List ℕ) (e : l ≡ x .row k) (d : m ≡ x .row (k - 1)) where
-      module _ (f t : ℕ) (p : f ≡ size (whole (cols l 39 42))) (q : t ≡ size (whole (cols m 43 46))) where
-        from-read : f ≡ reachAt x k .from
-        unfolding reachAt reach numberOf at sps93
-        from-read = p ∙ (rw (e, z))
+    module _ (f t : ℕ) (p : f ≡ reachAt x k .from) (q : t ≡ reachAt x (k - 1) .upto) where
+      rising : rises (reachesOf x) k ≡ ltb t f
+      unfolding rises reachesOf goesOn
+      rising =
+          before-asked of-record (λ j. ltb (reachAt x j .upto) (reachAt x k .from)) k y
+          ∙ sym (ap₂ ltb q p)
 
-        upto-read : t ≡ reachAt x (k - 1) .upto
-        unfolding reachAt reach numberOf at sps93
-        upto-read = q ∙ (rw (d, z))
+      pub seventeen-fine : t < f → fine ≡ run (rule17 x k)
+      unfolding rule17
+      seventeen-fine l = need-met _ _ (rising ∙ lt-ltb _ _ l)
 
-        rising : rises (reachesOf x) k ≡ ltb t f
-        unfolding rises reachesOf goesOn
-        rising =
-            before-asked of-record (λ j. ltb (reachAt x j .upto) (reachAt x k .from)) k y
-            ∙ sym (ap₂ ltb upto-read from-read)
-
-        pub seventeen-fine : t < f → fine ≡ run (rule17 x k)
-        unfolding rule17
-        seventeen-fine l = need-met _ _ (rising ∙ lt-ltb _ _ l)
-
-        pub seventeen-broken : f ≤ t → refused (№ 17 3 (k + 1) 39) ≡ run (rule17 x k)
-        unfolding rule17 sps93
-        seventeen-broken l = rw (← (ap (λ (L : Layout). L .from .first) z)) (need-broken _ _ (rising ∙ le-ltb _ _ l))
+      pub seventeen-broken : f ≤ t → x .layout ≡ sps93 → refused (№ 17 3 (k + 1) 39) ≡ run (rule17 x k)
+      unfolding rule17 sps93
+      seventeen-broken l z = rw (← (ap (λ (L : Layout). L .from .first) z)) (need-broken _ _ (rising ∙ le-ltb _ _ l))
 
   -- where it does not
   module _ (y : goesOn x k ≡ false) where

@@ -11,11 +11,11 @@ ghost use Rattle.lines.specs.Reading.{sheetOf};
 ghost use Rattle.form.specs.Known.{Known};
 ghost use Rattle.keys.specs.Held.{RelationLine};
 ghost use Rattle.mates.specs.Records.{Standing, goesOn, sameSet};
+use fields::figures;
 use keys::By;
 use keys::Keyed;
 use lines::Reading;
 use lines::Verdict;
-use records::relation;
 
 // The line just before relation line k is of the same tape and record.
 pub fn goes_on(how: Reading, x: &[u8], k: usize) -> bool
@@ -47,15 +47,15 @@ pub fn starts(on: bool, start: usize, k: usize) -> usize
 
 // Relation lines k and j have one record increment and instrument.
 fn same_set(how: Reading, x: &[u8], k: usize, j: usize) -> bool
-    requires { ⌜ (k < sheetOf how (now x) .count) × (j < sheetOf how (now x) .count) ⌝ }
+    requires { ⌜ Known 3 (sheetOf how (now x)) × (RelationLine (sheetOf how (now x)) k × RelationLine (sheetOf how (now x)) j) ⌝ }
     ensures value { λ t. ⌜ t ≡ sameSet (relationAt (sheetOf how (now (x .entry))) k) (relationAt (sheetOf how (now (x .entry))) j) ⌝ }
 {
-    let l = lines::line_of(how, x, k);
-    let m = lines::line_of(how, x, j);
-    if relation::index_at(&l, 12) != relation::index_at(&m, 12) {
+    let l = lines::own_of(how, x, k);
+    let m = lines::own_of(how, x, j);
+    if figures::index(&l, 12) != figures::index(&m, 12) {
         return false;
     }
-    relation::index_at(&l, 13) == relation::index_at(&m, 13)
+    figures::index(&l, 13) == figures::index(&m, 13)
 }
 
 // Relation lines k and j are of one shot, record increment and instrument.
@@ -82,9 +82,9 @@ fn rises(how: Reading, x: &[u8], k: usize) -> Verdict
     requires { ⌜ Known 3 (sheetOf how (now x)) × (RelationLine (sheetOf how (now x)) k × (goesOn (sheetOf how (now x)) k ≡ true)) ⌝ }
     ensures verdict { λ v. ⌜ paper v ≡ run (rule17 (sheetOf how (now (x .entry))) k) ⌝ }
 {
-    let l = lines::line_of(how, x, k);
-    let m = lines::line_of(how, x, k - 1);
-    if relation::number_at(&m, 43, 46) < relation::number_at(&l, 39, 42) {
+    let l = lines::own_of(how, x, k);
+    let m = lines::own_of(how, x, k - 1);
+    if figures::number(&m, 43, 46) < figures::number(&l, 39, 42) {
         return Verdict::Fine;
     }
     lines::at_line(17, 3, k, 39)

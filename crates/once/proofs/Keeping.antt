@@ -28,6 +28,7 @@ module _ (r : Sheet) (o : List ℕ) (x : Sheet) (t : List ℕ) (a k : ℕ) (w : 
         receivers = w .receivers;
         rows = w .rows;
         relations = w .relations;
+        alike = w .alike;
         line = w .lines .1 j l h;
         there = w .there j l h;
         room = let m = w .kept .room in omega arith;

@@ -21,11 +21,11 @@ use Rattle.once.proofs.Marking.{span-put, span-seen}
 module _ (r : Sheet) (o : List ℕ) (x : Sheet) (t : List ℕ) (k : ℕ) (w : Found r o x t k) (e n : ℕ) (f : e ≡ firstRow r o x k)
     (g : n ≡ receiversAt x k) where
   pub line-inside : e + n ≤ length o
-  line-inside = rw (f, g) (inside r o (w .receivers) (w .rows) x k (w .relations) (w .line) (w .there))
+  line-inside = rw (f, g) (inside r o (w .receivers) (w .rows) x k (w .relations) (w .alike) (w .line) (w .there))
 
   rows : (i : ℕ) → i < length o → covered r o x k i ≡ within e (e + n) i
   unfolding covered
-  rows i h = rw (f, g) (rows-covered r o (w .receivers) (w .rows) x k (w .relations) (w .line) (w .there) i h)
+  rows i h = rw (f, g) (rows-covered r o (w .receivers) (w .rows) x k (w .relations) (w .alike) (w .line) (w .there) i h)
 
   pub line-put : (v : ℕ) (u : List ℕ) → Spanned e (e + n) v t u → Put r o x k v t u
   line-put v u = span-put r o x k e n line-inside rows v t u

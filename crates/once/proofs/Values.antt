@@ -4,13 +4,13 @@
 --   meets-is   = what it says of two lines is whether they meet
 --   other-name = lines of other names do not
 use Prim.Native.Nat.{ℕ, _+_}
-use mathlib.Core.Path.{_≡_, refl, sym, ap₂, _∙_}
+use mathlib.Core.Path.{_≡_, refl, sym, ap, ap₂, _∙_}
 use mathlib.Core.Bool.{Bool, false, _&&_}
 use mathlib.Core.List.{List}
 use lib.Dec.{eqb}
 use Rattle.rules.specs.Text.{cols}
 use Rattle.rules.specs.Names.{text, sameName}
-use Rattle.rules.specs.Layout.{at, sps93}
+use Rattle.rules.specs.Layout.{Layout, Span, at, sps93}
 use Rattle.rules.specs.Sheet.{Sheet}
 use Rattle.rules.specs.Points.{nameOf as nameIn}
 use Rattle.rules.specs.Relations.{Reach as PaperReach, reach, reachAt}
@@ -24,9 +24,10 @@ use Rattle.fields.specs.Packed.{nameOf}
 use Rattle.fields.proofs.Texts.{names-equal}
 use Rattle.records.specs.Coded.{Ordered, codedReach}
 use Rattle.records.specs.declared.relation.Reach.{Reach}
-use Rattle.form.specs.Known.{Known}
+use Rattle.form.specs.Known.{owned, Known}
 use Rattle.form.proofs.Known.{formed, receiver-wide}
 use Rattle.keys.specs.Held.{RelationLine}
+use Rattle.keys.proofs.Owned.{own-wide, names-own}
 
 pub reach-at : (how : Reading) (x : List ℕ) (k : ℕ) (l : List ℕ) (q : Reach) → l ≡ sheetOf how x .row k → q ≡ codedReach (reach sps93 l)
     → q ≡ codedReach (reachAt (sheetOf how x) k)
@@ -37,28 +38,36 @@ pub ordered : (x : Sheet) (k : ℕ) → Known 3 x → RelationLine x k → Order
 unfolding reachAt
 ordered x k w l = (receiver-wide 3 x w k (l .0), formed 3 x w .rule6 k (l .0) (data-is x k .0 (l .1), refl) .1 .0)
 
--- t is what the code says of two lines; l and m are their columns, p and q their values
-pub meets-is : (how : Reading) (x : List ℕ) (k j : ℕ) → Known 3 (sheetOf how x) → RelationLine (sheetOf how x) k → RelationLine (sheetOf how x) j
-    → (l m : List ℕ) (p q : Reach) → l ≡ sheetOf how x .row k → p ≡ codedReach (reach sps93 l) → m ≡ sheetOf how x .row j
-    → q ≡ codedReach (reach sps93 m) → (t : Bool)
-    → ((a b : PaperReach) → p ≡ codedReach a → q ≡ codedReach b → Ordered a → Ordered b → t ≡ meet a b)
-    → t ≡ meet (reachAt (sheetOf how x) k) (reachAt (sheetOf how x) j)
-meets-is how x k j w u v l m p q a b c d t h =
-    h _ _ (reach-at how x k l p a b) (reach-at how x j m q c d) (ordered _ k w u) (ordered _ j w v)
+-- two relation lines: t is what the code says of their reaches, or of their names in own bytes
+module _ (how : Reading) (f : List ℕ) (k j : ℕ) (w : Known 3 (sheetOf how f)) (u : RelationLine (sheetOf how f) k) (v : RelationLine (sheetOf how f) j)
+    (t : Bool) where
+  abbrev x : Sheet
+  x = sheetOf how f
 
-name-at : (how : Reading) (x : List ℕ) (k : ℕ) (l : List ℕ) (n : Name) → l ≡ sheetOf how x .row k → n ≡ nameOf (text (cols l 48 (48 + 15)))
-    → n ≡ nameOf (reachAt (sheetOf how x) k .receiver)
-unfolding reachAt reach nameIn at sps93
-name-at how x k l n e f = f ∙ rw (e, layout-is how x)
+  pub meets-is : (p q : Reach) → p ≡ codedReach (reachAt x k) → q ≡ codedReach (reachAt x j)
+      → ((a b : PaperReach) → p ≡ codedReach a → q ≡ codedReach b → Ordered a → Ordered b → t ≡ meet a b) → t ≡ meet (reachAt x k) (reachAt x j)
+  meets-is p q a b h = h _ _ a b (ordered x k w u) (ordered x j w v)
 
-module _ (how : Reading) (x : List ℕ) (k j : ℕ) (w : Known 3 (sheetOf how x)) (u : RelationLine (sheetOf how x) k) (v : RelationLine (sheetOf how x) j)
-    (l m : List ℕ) (p q : Name) (a : l ≡ sheetOf how x .row k) (b : p ≡ nameOf (text (cols l 48 (48 + 15)))) (c : m ≡ sheetOf how x .row j)
-    (d : q ≡ nameOf (text (cols m 48 (48 + 15)))) (t : Bool) (s : t ≡ (eqb (p .hi) (q .hi) && eqb (p .lo) (q .lo))) where
-  one-name : t ≡ sameName (reachAt (sheetOf how x) k .receiver) (reachAt (sheetOf how x) j .receiver)
-  one-name =
-      s ∙ ap₂ (λ (m n : Name). eqb (m .hi) (n .hi) && eqb (m .lo) (n .lo)) (name-at how x k l p a b) (name-at how x j m q c d)
-      ∙ names-equal _ _ (ordered _ k w u .0) (ordered _ j w v .0)
+  module _ (l m : List ℕ) (p q : Name) (a : l ≡ owned x k) (b : p ≡ nameOf (text (cols l 48 (48 + 15)))) (c : m ≡ owned x j)
+      (d : q ≡ nameOf (text (cols m 48 (48 + 15)))) (s : t ≡ (eqb (p .hi) (q .hi) && eqb (p .lo) (q .lo))) where
+    abbrev z : Span
+    z = x .layout .receiver
 
-  pub other-name : t ≡ false → false ≡ meet (reachAt (sheetOf how x) k) (reachAt (sheetOf how x) j)
-  unfolding meet
-  other-name n = rw (sym one-name ∙ n)
+    own-name : (i : ℕ) (l : List ℕ) (n : Name) → l ≡ owned x i → n ≡ nameOf (text (cols l 48 (48 + 15))) → n ≡ nameOf (nameIn (owned x i) z)
+    unfolding nameIn at sps93
+    own-name i l n e g =
+        g ∙ ap (λ (m : List ℕ). nameOf (text (cols m 48 (48 + 15)))) e
+        ∙ ap (λ (L : Layout). nameOf (nameIn (owned x i) (L .receiver))) (sym (layout-is how f))
+
+    same-names : sameName (nameIn (owned x k) z) (nameIn (owned x j) z) ≡ sameName (reachAt x k .receiver) (reachAt x j .receiver)
+    unfolding reachAt reach
+    same-names = names-own 3 x w k (u .0) 3 x w j (v .0) refl z z
+
+    one-name : t ≡ sameName (reachAt x k .receiver) (reachAt x j .receiver)
+    one-name =
+        s ∙ ap₂ (λ (m n : Name). eqb (m .hi) (n .hi) && eqb (m .lo) (n .lo)) (own-name k l p a b) (own-name j m q c d)
+        ∙ names-equal _ _ (own-wide 3 x w k (u .0) z (w .shape .receiver)) (own-wide 3 x w j (v .0) z (w .shape .receiver)) ∙ same-names
+
+    pub other-name : t ≡ false → false ≡ meet (reachAt x k) (reachAt x j)
+    unfolding meet
+    other-name n = rw (sym one-name ∙ n)

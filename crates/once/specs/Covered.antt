@@ -6,7 +6,7 @@
 --   someMarked r o x k t v  = a row of line k is marked with v in t
 --   Spanned lo hi v t u     = u is t, but v at the places from lo on and before hi
 --   Lines x a k             = the lines from a on up to k are relation lines
---   Found r o x t k         = the receivers of relation line k are rows, and t has a place for each row
+--   Found r o x t k         = R and X are read in one medium, the receivers of relation line k are rows, and t has a place for each row
 use Prim.Native.Nat.{ℕ, _≤_}
 use mathlib.Core.Path.{_≡_}
 use mathlib.Core.Bool.{Bool, true, not, _&&_, _||_}
@@ -54,6 +54,7 @@ pub record Found (r : Sheet) (o : List ℕ) (x : Sheet) (t : List ℕ) (k : ℕ)
   pub receivers : KnownReceivers r
   pub rows : Rows r o
   pub relations : Known 3 x
+  pub alike : r .rank ≡ x .rank
   pub line : RelationLine x k
   pub there : receiversThere r (reachAt x k) ≡ true
   pub room : length o ≤ length t

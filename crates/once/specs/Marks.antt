@@ -51,6 +51,7 @@ pub record Ready (r : Sheet) (o : List ℕ) (x : Sheet) (t : List ℕ) (a k : �
   pub receivers : KnownReceivers r
   pub rows : Rows r o
   pub relations : Known 3 x
+  pub alike : r .rank ≡ x .rank
   pub lines : Lines x a k
   pub own : (j : ℕ) → j < k → mates (reachesOf x) k j ≡ leb a j
   pub there : (j : ℕ) → a ≤ j → j ≤ k → receiversThere r (reachAt x j) ≡ true

@@ -10,6 +10,7 @@ ghost use Rattle.rules.specs.Cover.{meet};
 ghost use Rattle.rules.specs.Order.{rule19};
 ghost use Rattle.lines.specs.Paper.{paper};
 ghost use Rattle.lines.specs.Reading.{sheetOf};
+ghost use Rattle.records.specs.Coded.{codedReach};
 ghost use Rattle.form.specs.Known.{Known};
 ghost use Rattle.keys.specs.Held.{RelationLine};
 ghost use Rattle.once.specs.Covered.{receiversAt, apart, someMarked, Found, Lines};
@@ -19,6 +20,7 @@ use lines::Reading;
 use lines::Verdict;
 use records::cover;
 use records::relation;
+use records::relation::Reach;
 
 mod marks;
 
@@ -33,17 +35,25 @@ pub fn clear(t: &mut [u32])
     marks::mark(t, 0, n, 0);
 }
 
+// What line k covers.
+fn reach_of(how: Reading, x: &[u8], k: usize) -> Reach
+    requires { ⌜ k < sheetOf how (now x) .count ⌝ }
+    ensures value { λ q. ⌜ q ≡ codedReach (reachAt (sheetOf how (now (x .entry))) k) ⌝ }
+{
+    relation::reach_of(&lines::line_of(how, x, k))
+}
+
 // Relation lines k and j cover one receiver. The numbers are read only where the names are the same.
 fn lines_meet(how: Reading, x: &[u8], k: usize, j: usize) -> bool
     requires { ⌜ Known 3 (sheetOf how (now x)) × (RelationLine (sheetOf how (now x)) k × RelationLine (sheetOf how (now x)) j) ⌝ }
     ensures value { λ t. ⌜ t ≡ meet (reachAt (sheetOf how (now (x .entry))) k) (reachAt (sheetOf how (now (x .entry))) j) ⌝ }
 {
-    let l = lines::line_of(how, x, k);
-    let m = lines::line_of(how, x, j);
+    let l = lines::own_of(how, x, k);
+    let m = lines::own_of(how, x, j);
     if !names::same_name(names::name(&l, 48), names::name(&m, 48)) {
         return false;
     }
-    cover::meets(relation::reach_of(&l), relation::reach_of(&m))
+    cover::meets(reach_of(how, x, k), reach_of(how, x, j))
 }
 
 // No line from `start` on and before relation line k covers a receiver of it.
@@ -74,7 +84,7 @@ fn receivers_of(how: Reading, x: &[u8], k: usize) -> usize
     requires { ⌜ k < sheetOf how (now x) .count ⌝ }
     ensures value { λ n. ⌜ n ≡ receiversAt (sheetOf how (now (x .entry))) k ⌝ }
 {
-    cover::receivers(relation::reach_of(&lines::line_of(how, x, k))) as usize
+    cover::receivers(reach_of(how, x, k)) as usize
 }
 
 // A row of relation line k is marked with v.

@@ -29,14 +29,14 @@ module _ (r : Sheet) (k : ℕ) where
   passes : ℕ → Bool
   passes m = eqb m 0 || lessOr (keyAt Points r (m - 1)) (keyAt Points r k) false
 
-  module _ (w : Known 1 r) (n : r .rank ≡ (λ (b : ℕ). b)) (h : k < r .count) (p : isPoint r k ≡ true) where
+  module _ (w : Known 1 r) (h : k < r .count) (p : isPoint r k ≡ true) where
     tested : ofLast (isPoint r) (λ j. above (r .rank) (pointAt r k) (pointAt r j)) k ≡ passes (lastPoint r k)
     unfolding lastPoint passes
     tested =
         last-is (isPoint r) _ suc passes refl k
         (λ j l e.
         let z : suc j - 1 ≡ j = omega arith in
-        rw (ne-eqb (suc j) 0 (λ q. omega arith), z) (points-above 1 r w (λ q. omega arith) j (omega arith) e k h p n))
+        rw (ne-eqb (suc j) 0 (λ q. omega arith), z) (points-above 1 r w (λ q. omega arith) j (omega arith) e k h p))
 
     module _ (last : ℕ) (e : last ≡ lastPoint r k) where
       pub ten-first : last ≡ 0 → fine ≡ run (rule10 r k)

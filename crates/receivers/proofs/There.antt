@@ -25,7 +25,7 @@ use Rattle.rules.proofs.Order.{at-is}
 use Rattle.rules.proofs.Accepted.{receiver-line}
 use Rattle.rules.proofs.Cover.{covers-is}
 use Rattle.lines.proofs.Tests.{untrue}
-use Rattle.form.specs.Known.{Known}
+use Rattle.form.specs.Known.{owned, Known}
 use Rattle.form.proofs.Known.{formed, to-receiver-small}
 use Rattle.keys.specs.declared.Key.{Key}
 use Rattle.keys.specs.Held.{RelationLine, KnownReceivers}
@@ -40,14 +40,15 @@ use Rattle.receivers.proofs.Rising.{one-place, stands, between}
 use Rattle.receivers.proofs.Rows.{rowValue, ten, row-point, rises, row-same}
 
 abbrev pub keyOn : Sheet → ℕ → ℕ → Key
-keyOn x k n = receiverKey (x .layout) (x .row k) n
+keyOn x k n = receiverKey (x .layout) (owned x k) n
 
 -- a number that is d more makes a key whose number is d more
 key-more : (x : Sheet) (k n d : ℕ) → value (keyOn x k (n + d)) ≡ value (keyOn x k n) + d
 unfolding receiverKey value
 key-more x k n d = pair-more 18446744073709551616 _ _ n d
 
-module _ (r : Sheet) (o : List ℕ) (w : KnownReceivers r) (v : Rows r o) (x : Sheet) (k : ℕ) (wx : Known 3 x) (lx : RelationLine x k) where
+module _ (r : Sheet) (o : List ℕ) (w : KnownReceivers r) (v : Rows r o) (x : Sheet) (k : ℕ) (wx : Known 3 x)
+    (alike : r .rank ≡ x .rank) (lx : RelationLine x k) where
   abbrev q : Reach
   q = reachAt x k
 
@@ -78,7 +79,7 @@ module _ (r : Sheet) (o : List ℕ) (w : KnownReceivers r) (v : Rows r o) (x : S
   unfolding receiverOn isRow
   row-is d e h l =
       sym
-      (receiver-is 1 r (w .0) (λ z. omega arith) (nth o e) (v .own e l) (row-point r o w v e l) x wx k (lx .0) (lx .1)
+      (receiver-is 1 r (w .0) (λ z. omega arith) (nth o e) (v .own e l) (row-point r o w v e l) x wx alike k (lx .0) (lx .1)
       (q .fromReceiver + d) (few d h))
       ∙ look-is d e h
 

@@ -7,13 +7,14 @@ ghost use Rattle.rules.specs.Places.{least};
 ghost use Rattle.rules.specs.Relations.{reachAt};
 ghost use Rattle.rules.specs.Order.{receiversThere};
 ghost use Rattle.lines.specs.Reading.{sheetOf};
-ghost use Rattle.keys.specs.Held.{KnownReceivers};
+ghost use Rattle.form.specs.Known.{Known};
+ghost use Rattle.keys.specs.Held.{RelationLine, KnownReceivers};
 ghost use Rattle.receivers.specs.Rows.{Rows, isRow as isRowOf, notBelow, rowOf, firstRow, FirstAt};
+use fields::figures;
 use keys::By;
 use keys::Key;
 use keys::Keyed;
 use lines::Reading;
-use records::relation;
 
 // Row e is not below the key y.
 fn not_below(how: Reading, r: &[u8], o: &[u32], e: usize, y: Key) -> bool
@@ -83,10 +84,11 @@ fn row_of(how: Reading, r: &[u8], o: &[u32], y: Key) -> usize
 
 // The row of the first receiver of relation line k; the number of rows where there is none.
 pub fn first_row(how: Reading, r: &[u8], o: &[u32], x: &[u8], k: usize) -> usize
-    requires { ⌜ (KnownReceivers (sheetOf how (now r)) × Rows (sheetOf how (now r)) (now o)) × (k < sheetOf how (now x) .count) ⌝ }
+    requires { ⌜ (KnownReceivers (sheetOf how (now r)) × Rows (sheetOf how (now r)) (now o))
+        × (Known 3 (sheetOf how (now x)) × RelationLine (sheetOf how (now x)) k) ⌝ }
     ensures value { λ e. ⌜ e ≡ firstRow (sheetOf how (now (r .entry))) (now (o .entry)) (sheetOf how (now (x .entry))) k ⌝ }
 {
-    let from = relation::number_at(&lines::line_of(how, x, k), 64, 71);
+    let from = figures::number(&lines::own_of(how, x, k), 64, 71) as u32;
     row_of(how, r, o, keys::receiver_key(how, x, k, from))
 }
 
@@ -99,12 +101,12 @@ pub fn all_there(how: Reading, r: &[u8], o: &[u32], x: &[u8], k: usize, e: usize
     if e == m {
         return false;
     }
-    let l = lines::line_of(how, x, k);
-    let from = relation::number_at(&l, 64, 71);
-    let to = relation::number_at(&l, 72, 79);
+    let l = lines::own_of(how, x, k);
+    let from = figures::number(&l, 64, 71);
+    let to = figures::number(&l, 72, 79);
     let d = (to - from) as usize;
     if m - e <= d {
         return false;
     }
-    is_row(how, r, o, e + d, keys::receiver_key(how, x, k, to))
+    is_row(how, r, o, e + d, keys::receiver_key(how, x, k, to as u32))
 }

@@ -44,6 +44,7 @@ module _ (r x : Sheet) (k : ℕ) (t : Bool) (e : t ≡ receiversThere r (reachAt
         receivers = w .receivers;
         rows = w .rows;
         relations = w .relations;
+        alike = w .alike;
         lines = w .lines;
         own = w .own;
         there =

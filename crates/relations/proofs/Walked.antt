@@ -216,6 +216,7 @@ module _ (r : Sheet) (o : List ℕ) (s x : Sheet) (apart : ℕ) (t₀ : List ℕ
               receivers = b .receivers;
               rows = b .rows;
               relations = b .relations;
+              alike = b .alike;
               lines = g .lines;
               own = g .own;
               there = λ j l i. there j l i (g .lines .1 j l (omega arith) .1);

@@ -34,6 +34,7 @@ pub record Waiting (r : Sheet) (o : List ℕ) (x : Sheet) (t : List ℕ) (a k : 
   pub receivers : KnownReceivers r
   pub rows : Rows r o
   pub relations : Known 3 x
+  pub alike : r .rank ≡ x .rank
   pub lines : Lines x a k
   pub own : (j : ℕ) → j < k → mates (reachesOf x) k j ≡ leb a j
   pub there : (j : ℕ) → a ≤ j → j < k → receiversThere r (reachAt x j) ≡ true
@@ -44,5 +45,6 @@ pub record Begun (r : Sheet) (o : List ℕ) (s x : Sheet) (apart : ℕ) (t : Lis
   pub rows : Rows r o
   pub shots : KnownShots s
   pub relations : Known 3 x
+  pub alike : r .rank ≡ x .rank
   pub first : apart ≡ least (x .count) (repeats Records x)
   pub room : length o ≤ length t

@@ -1,8 +1,9 @@
--- Demands 1 and 2 of the calls `check` and `check_on`, from their contracts.
+-- Demands 1 and 2 of the call `check`, from its contract, whatever the medium.
 use Prim.Native.Nat.{ℕ, _<_}
 use native.Mathlib.Omega.{arith}
 use mathlib.Core.Path.{_≡_, sym, ap, subst, _∙_}
 use mathlib.Core.Logic.{_↔_, Iff·trans}
+use mathlib.Core.Bool.{true}
 use mathlib.Core.List.{List}
 use contract.Lifetimes.{Lfts}
 use denote.Ref.{now}
@@ -11,33 +12,34 @@ use borrow.Fn.World.{ArgsD, ResD}
 use Rattle.outcome.specs.One.{One}
 use Rattle.rules.specs.Plan.{Refusal, Verdict, fine, refused, №}
 use Rattle.rules.specs.Sheet.{Sheet}
+use Rattle.rules.specs.Text.{oneOf}
+use Rattle.rules.specs.Medium.{sheet}
 use Rattle.rules.specs.Disc.{file}
+use Rattle.rules.specs.Tape.{page, charIn, byteIn, tape}
 use Rattle.rules.specs.Check.{accepted, refusal, verdict, answer, points, relations, allTraces, check as checkOf}
 use Rattle.rules.specs.Layout.{sps93}
 use Rattle.rules.specs.MeetsForm.{Rule3}
 use Rattle.rules.specs.MeetsDisc.{Clean}
+use Rattle.rules.specs.MeetsTape.{characters, CleanTape}
 use Rattle.rules.specs.Meets.{Meets}
 use Rattle.rules.specs.Refuses.{Refuses}
 use Rattle.rules.specs.Listed.{Listed}
 use Rattle.rules.proofs.Meets.{verdict-meets, verdict-refuses}
 use Rattle.rules.proofs.Disc.{takes-is}
+use Rattle.rules.proofs.Tape.{tape-takes, all-taken}
 use Rattle.rules.proofs.Counts.{accepted-is}
 use Rattle.rules.proofs.Hosts.{Sized, check-sized}
-use Rattle.lines.specs.Reading.{sheetOf}
-use Rattle.lines.proofs.Sheets.{sheet-is}
+use Rattle.lines.specs.Reading.{mediumOf, sheetOf}
+use Rattle.lines.proofs.Sheets.{lawful}
 use Rattle.sets.specs.declared.Answer.{Answer}
 use Rattle.sets.specs.declared.Answer.the-variants.{Accepted, Refused}
 use Rattle.sets.specs.Paper.{paper}
 use Rattle.sets.specs.Judged.{Judged}
-use Rattle.sets.proofs.One.{answer-one, check-one, check-on-one}
+use Rattle.sets.proofs.One.{answer-one, check-one}
 use Rattle.sets.proofs.check as check
 use Rattle.sets.proofs.check.Reads as check-reads
 use Rattle.sets.proofs.check.Statement.{statement}
 use Rattle.sets.proofs.check.Met.{met}
-use Rattle.sets.proofs.check_on as check-on
-use Rattle.sets.proofs.check_on.Reads as check-on-reads
-use Rattle.sets.proofs.check_on.Statement.{statement as statement-on}
-use Rattle.sets.proofs.check_on.Met.{met as met-on}
 
 -- an answer is a refusal exactly where the verdict is
 refusal-is : (u : Verdict) (n m k t : ℕ) (w : Refusal) → (answer u (accepted n m k t) ≡ refusal w) ↔ (u ≡ refused w)
@@ -69,47 +71,36 @@ module _ (r s x : Sheet) where
             (λ y. b .0 (sym e ∙ ap paper y), λ y. answer-one v (Refused n f l c) (e ∙ b .1 y));
       }
 
-listed : (r s x : List ℕ) (v : Answer) → paper v ≡ checkOf (file r) (file s) (file x) → (n f l c : ℕ) → v ≡ Refused n f l c → Listed (№ n f l c)
-listed r s x v e n f l c y = subst Sized (sym e ∙ ap paper y) (check-sized r s x)
-
 -- 1: "The checker takes three byte strings of every length and content and ends with a verdict, whatever the caller did or did not look at."
 pub demand-1 : {M : Type 1} → statement M
 demand-1 = met
 
-pub demand-1-on : {M : Type 1} → statement-on M
-demand-1-on = met-on
-
 pub one-answer : One check.ended check-reads.Post
 one-answer = check-one
 
-pub one-answer-on : One check-on.ended check-on-reads.Post
-one-answer-on = check-on-one
-
--- "A refusal is one number, file, line and column from the published order of checks, and writes nothing into lent memory." Both calls are
--- lent files alone, which their types keep as they are.
+-- "A refusal is one number, file, line and column from the published order of checks, and writes nothing into lent memory." The call is lent
+-- files alone, which their types keep as they are.
 pub from-the-list : (κs : Lfts 3) (a : ArgsD check.signature κs) (v : ResD check.signature κs) (w : AtExit check.ended κs)
     → check-reads.Post κs a v w → (n f l c : ℕ) → v ≡ Refused n f l c → Listed (№ n f l c)
 unfolding sheetOf
-from-the-list κs a v w p = listed (now (a .0)) (now (a .1 .0)) (now (a .1 .1 .0)) v p
-
-pub from-the-list-on : (κs : Lfts 3) (a : ArgsD check-on.signature κs) (v : ResD check-on.signature κs) (w : AtExit check-on.ended κs)
-    → check-on-reads.Post κs a v w → (n f l c : ℕ) → v ≡ Refused n f l c → Listed (№ n f l c)
-from-the-list-on κs a v w p =
-    listed (now (a .1 .0)) (now (a .1 .1 .0)) (now (a .1 .1 .1 .0)) v
-    (rw (sheet-is (a .0) (now (a .1 .0)), sheet-is (a .0) (now (a .1 .1 .0)), sheet-is (a .0) (now (a .1 .1 .1 .0))) at p)
+from-the-list κs a v w p n f l c y =
+    subst Sized (sym p ∙ ap paper y) (check-sized (mediumOf (a .0)) (lawful (a .0)) (now (a .1 .0)) (now (a .1 .1 .0)) (now (a .1 .1 .1 .0)))
 
 -- 2: "A set is accepted exactly when it meets the SPS text of 1993 as narrowed in document 01; otherwise the refusal is the first breach in
 -- the stated order. The counts returned on acceptance are those of the set."
 pub demand-2 : (κs : Lfts 3) (a : ArgsD check.signature κs) (v : ResD check.signature κs) (w : AtExit check.ended κs)
-    → check-reads.Post κs a v w → Judged (file (now (a .0))) (file (now (a .1 .0))) (file (now (a .1 .1 .0))) v
-unfolding sheetOf
-demand-2 κs a v w p = judged (file (now (a .0))) (file (now (a .1 .0))) (file (now (a .1 .1 .0))) v p
+    → check-reads.Post κs a v w
+    → Judged (sheetOf (a .0) (now (a .1 .0))) (sheetOf (a .0) (now (a .1 .1 .0))) (sheetOf (a .0) (now (a .1 .1 .1 .0))) v
+demand-2 κs a v w p = judged (sheetOf (a .0) (now (a .1 .0))) (sheetOf (a .0) (now (a .1 .1 .0))) (sheetOf (a .0) (now (a .1 .1 .1 .0))) v p
 
 -- "A line is 80 columns, then CR (13) and LF (10): 82 bytes. .. Columns 1 to 80 hold bytes 32 to 126." 3 of a file on disc says just that.
 pub on-disc : (f : List ℕ) (k : ℕ) → k < file f .count → Rule3 (file f) k ↔ Clean f k
 on-disc f k h = takes-is sps93 f k h
 
-pub demand-2-on : (κs : Lfts 3) (a : ArgsD check-on.signature κs) (v : ResD check-on.signature κs) (w : AtExit check-on.ended κs)
-    → check-on-reads.Post κs a v w
-    → Judged (sheetOf (a .0) (now (a .1 .0))) (sheetOf (a .0) (now (a .1 .1 .0))) (sheetOf (a .0) (now (a .1 .1 .1 .0))) v
-demand-2-on κs a v w p = judged (sheetOf (a .0) (now (a .1 .0))) (sheetOf (a .0) (now (a .1 .1 .0))) (sheetOf (a .0) (now (a .1 .1 .1 .0))) v p
+-- "only blank, letters, digits and `. , ; : ( ) - + / & ' % * = ? _ < >` are taken": and 3 of a tape says that.
+pub on-tape : (f : List ℕ) (k : ℕ) → k < sheet tape sps93 f .count → Rule3 (sheet tape sps93 f) k ↔ CleanTape f k
+on-tape f k h = tape-takes sps93 f k h
+
+-- each of these has its byte
+pub every-character : (c : ℕ) → oneOf characters c ≡ true → charIn page (byteIn page c) ≡ c
+every-character = all-taken

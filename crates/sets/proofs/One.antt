@@ -4,8 +4,6 @@ use Rattle.outcome.specs.One.{One, alike}
 use Rattle.sets.specs.declared.Answer.{Answer}
 use Rattle.sets.specs.declared.Answer.the-variants.{Accepted, Refused}
 use Rattle.sets.specs.Paper.{paper}
-use Rattle.sets.proofs.check_on as check-on
-use Rattle.sets.proofs.check_on.Reads as check-on-reads
 use Rattle.sets.proofs.check as check
 use Rattle.sets.proofs.check.Reads as check-reads
 use Rattle.sets.proofs.counts.points as points
@@ -20,9 +18,6 @@ answer-one (Accepted n m k t) (Accepted n′ m′ k′ t′) e = cc
 answer-one (Accepted n m k t) (Refused n′ f′ l′ c′) e = cc
 answer-one (Refused n f l c) (Accepted n′ m′ k′ t′) e = cc
 answer-one (Refused n f l c) (Refused n′ f′ l′ c′) e = cc
-
-pub check-on-one : One check-on.ended check-on-reads.Post
-check-on-one κs a v v′ w w′ p p′ = (answer-one v v′ (p ∙ sym p′), refl)
 
 pub check-one : One check.ended check-reads.Post
 check-one κs a v v′ w w′ p p′ = (answer-one v v′ (p ∙ sym p′), refl)

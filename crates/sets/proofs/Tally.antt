@@ -1,51 +1,39 @@
--- The traces of a line, from the values that the code reads.
+-- The traces of a line, from the channels that the code reads.
 use Prim.Native.Nat.{ℕ, _+_, _-_, _<_}
 use native.Mathlib.Omega.{arith}
-use mathlib.Core.Path.{_≡_, sym, ap, ap₂, _∙_}
-use mathlib.Core.Bool.{Bool, true, false, not}
-use mathlib.Core.List.{List}
+use mathlib.Core.Path.{_≡_, sym, ap₂, _∙_}
+use mathlib.Core.Bool.{Bool, true, false}
 use Rattle.rules.specs.Places.{pick}
-use Rattle.rules.specs.Text.{cols}
-use Rattle.rules.specs.Numbers.{size, whole}
-use Rattle.rules.specs.Layout.{Layout, at, sps93}
-use Rattle.rules.specs.Lines.{isHeader, isData}
-use Rattle.rules.specs.Points.{numberOf}
-use Rattle.rules.specs.Relations.{reach, reachAt}
+use Rattle.rules.specs.Sheet.{Sheet}
+use Rattle.rules.specs.Lines.{isData}
+use Rattle.rules.specs.Relations.{reachAt}
 use Rattle.rules.specs.Cover.{traces}
-use Rattle.lines.specs.declared.Reading.{Reading}
-use Rattle.lines.specs.Reading.{sheetOf}
-use Rattle.lines.proofs.Sheets.{layout-is}
 use Rattle.form.specs.Known.{Known}
 use Rattle.form.proofs.Known.{upto-small}
-use Rattle.headers.proofs.Laws.{data-here}
+use Rattle.keys.specs.Keyed.{takesAt}
+use Rattle.keys.specs.Held.{RelationLine}
+use Rattle.keys.specs.declared.By.the-variants.{Records}
+use Rattle.keys.proofs.Lines.{takes-record}
 use Rattle.sets.specs.Paper.{tracesAt}
 
--- a and b are the first and the last channel, as the code reads them
-module _ (l : List ℕ) (a b : ℕ) (e : a ≡ size (whole (cols l 39 42))) (f : b ≡ size (whole (cols l 43 46))) where
-  pub traces-none : b < a → 0 ≡ traces (reach sps93 l)
-  unfolding traces reach numberOf at sps93
-  traces-none h = omega arith
+-- t says whether line k is a relation line
+module _ (x : Sheet) (k : ℕ) (h : k < x .count) (t : Bool) (q : t ≡ takesAt Records x k) where
+  is-data : isData x k ≡ t
+  is-data = sym (q ∙ takes-record x k h)
 
-  pub traces-some : b + 1 - a ≡ traces (reach sps93 l)
-  unfolding traces reach numberOf at sps93
-  traces-some = omega arith
-
-module _ (how : Reading) (x : List ℕ) (k : ℕ) (l : List ℕ) (e : l ≡ sheetOf how x .row k) (t : Bool) (q : t ≡ isHeader l) where
-  pub no-traces : t ≡ true → 0 ≡ tracesAt (sheetOf how x) k
+  pub no-traces : t ≡ false → 0 ≡ tracesAt x k
   unfolding pick
-  no-traces y = let d : isData (sheetOf how x) k ≡ false = sym (data-here (sheetOf how x) l k e t q) ∙ ap not y in rw d
+  no-traces n = let d : isData x k ≡ false = is-data ∙ n in rw d
 
-  module _ (n : t ≡ false) (m : ℕ) (g : m ≡ traces (reach sps93 l)) where
-    here : m ≡ traces (reachAt (sheetOf how x) k)
-    unfolding reachAt
-    here = g ∙ ap₂ (λ (L : Layout) (l : List ℕ). traces (reach L l)) (sym (layout-is how x)) e
+  pub relation-line : t ≡ true → RelationLine x k
+  relation-line y = (h, is-data ∙ y)
 
-    pub some-traces : m ≡ tracesAt (sheetOf how x) k
-    unfolding pick
-    some-traces =
-        let d : isData (sheetOf how x) k ≡ true = sym (data-here (sheetOf how x) l k e t q) ∙ ap not n in
-        rw d here
-
-    pub few-traces : Known 3 (sheetOf how x) → k < sheetOf how x .count → m < 4294967296
+  -- from a to b are its channels
+  module _ (y : t ≡ true) (w : Known 3 x) (a b m : ℕ) (e : a ≡ reachAt x k .from) (f : b ≡ reachAt x k .upto) (g : m ≡ b + 1 - a) where
+    here : m ≡ traces (reachAt x k)
     unfolding traces
-    few-traces w h = omega (arith, upto-small 3 (sheetOf how x) w k h, here)
+    here = g ∙ ap₂ (λ (a b : ℕ). b + 1 - a) e f
+
+    pub some-traces : (m ≡ tracesAt x k) × (m < 4294967296)
+    unfolding pick traces
+    some-traces = let d : isData x k ≡ true = is-data ∙ y in (rw d here, omega (arith, upto-small 3 x w k h, here))

@@ -1,21 +1,17 @@
 // The counts of an accepted set: receivers, shots, relation lines and traces.
 ghost use mathlib.Core.Path.{_≡_};
-ghost use Prim.Native.Nat.{_≤_, _<_};
+ghost use Prim.Native.Nat.{_+_, _-_, _≤_, _<_};
 ghost use Rattle.rules.specs.Places.{count};
 ghost use Rattle.rules.specs.Sheet.{mostLines};
-ghost use Rattle.rules.specs.Layout.{sps93};
-ghost use Rattle.rules.specs.Relations.{reach};
-ghost use Rattle.rules.specs.Cover.{traces as tracesOf};
 ghost use Rattle.rules.specs.Check.{points as pointsOf, relations as relationsOf, allTraces};
 ghost use Rattle.lines.specs.Reading.{sheetOf};
 ghost use Rattle.form.specs.Known.{Known};
 ghost use Rattle.keys.specs.Keyed.{takesIn};
 ghost use Rattle.sets.specs.Paper.{tracesAt};
+use fields::figures;
 use keys::By;
 use keys::Keyed;
 use lines::Reading;
-use records::fits;
-use records::relation;
 
 // How many lines of a file have a key of that kind.
 fn keyed(z: Keyed, f: &[u8]) -> u64
@@ -64,29 +60,32 @@ pub fn relations(how: Reading, x: &[u8]) -> u64
     )
 }
 
-// The traces of a relation line; only its channel numbers are read.
-fn traces_of(l: &[u8; 80]) -> u64
-    ensures value { λ n. ⌜ n ≡ tracesOf (reach sps93 (now (l .entry))) ⌝ }
+// How many channels there are from the first to the last.
+fn channels(from: u64, upto: u64) -> u64
+    requires { ⌜ upto < 4294967296 ⌝ }
+    ensures value { λ n. ⌜ n ≡ upto + 1 - from ⌝ }
 {
-    let from = relation::number_at(l, 39, 42) as u64;
-    let upto = relation::number_at(l, 43, 46) as u64;
     if upto < from {
         return 0;
     }
     upto + 1 - from
 }
 
-// The traces of line k, where it is a relation line.
+// The traces of line k, where it is a relation line; only its channel numbers are read.
 fn line_traces(how: Reading, x: &[u8], k: usize) -> u64
     requires { ⌜ Known 3 (sheetOf how (now x)) × (k < sheetOf how (now x) .count) ⌝ }
     ensures value { λ n. ⌜ n ≡ tracesAt (sheetOf how (now (x .entry))) k ⌝ }
     ensures small { λ n. ⌜ n < 4294967296 ⌝ }
 {
-    let l = lines::line_of(how, x, k);
-    if fits::is_header(&l) {
+    let z = Keyed {
+        how,
+        by: By::Records,
+    };
+    if !keys::takes(z, x, k) {
         return 0;
     }
-    traces_of(&l)
+    let l = lines::own_of(how, x, k);
+    channels(figures::number(&l, 39, 42), figures::number(&l, 43, 46))
 }
 
 // The traces of all relation lines.

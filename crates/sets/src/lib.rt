@@ -3,7 +3,7 @@
 ghost use mathlib.Core.Path.{_≡_};
 ghost use Rattle.rules.specs.Plan.{run};
 ghost use Rattle.lines.specs.Paper.{paper as verdictOf};
-ghost use Rattle.lines.specs.Reading.{onDisc, sheetOf};
+ghost use Rattle.lines.specs.Reading.{sheetOf};
 ghost use Rattle.form.specs.Known.{Known};
 ghost use Rattle.relations.specs.Walk.{allRelate};
 ghost use Rattle.sets.specs.Paper.{paper, checkOn, formsOf, pointsOf, across as acrossOf, counts as countsOf, answeredAcross, KnownSet, Ordered, Arrays};
@@ -139,8 +139,8 @@ fn answer_across(how: Reading, r: &[u8], s: &[u8], x: &[u8]) -> Answer
     counted(how, r, s, x)
 }
 
-// The set check of three files that are read in one way.
-pub fn check_on(how: Reading, r: &[u8], s: &[u8], x: &[u8]) -> Answer
+// Checks a set of three files of any length and content, read in one way.
+pub fn check(how: Reading, r: &[u8], s: &[u8], x: &[u8]) -> Answer
     ensures answer { λ a. ⌜ paper a ≡ checkOn how (now (r .entry)) (now (s .entry)) (now (x .entry)) ⌝ }
 {
     let v = forms(how, r, s, x);
@@ -152,11 +152,4 @@ pub fn check_on(how: Reading, r: &[u8], s: &[u8], x: &[u8]) -> Answer
         return Answer::Refused(n, i, k, c);
     }
     answer_across(how, r, s, x)
-}
-
-// Checks a set of three files of any length and content.
-pub fn check(r: &[u8], s: &[u8], x: &[u8]) -> Answer
-    ensures answer { λ a. ⌜ paper a ≡ checkOn onDisc (now (r .entry)) (now (s .entry)) (now (x .entry)) ⌝ }
-{
-    check_on(lines::disc(), r, s, x)
 }

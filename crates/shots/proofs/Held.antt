@@ -14,8 +14,8 @@ use Rattle.rules.specs.Order.{isPointAt}
 use Rattle.rules.proofs.Tests.{agree}
 use Rattle.lines.specs.Reading.{sheetOf}
 use Rattle.lines.specs.declared.Reading.{Reading}
-use Rattle.lines.proofs.Sheets.{layout-is}
-use Rattle.form.specs.Known.{Known}
+use Rattle.lines.proofs.Sheets.{layout-is, rank-same}
+use Rattle.form.specs.Known.{owned, Known}
 use Rattle.keys.specs.Held.{RelationLine, KnownShots}
 use Rattle.keys.specs.Compare.{sameKey}
 use Rattle.keys.specs.Keys.{shotKey}
@@ -27,21 +27,21 @@ use Rattle.keys.proofs.Held.{holds-point}
 use Rattle.keys.proofs.Points.{shot-is}
 use Rattle.shots.specs.Places.{isShot, namesKey}
 
-module _ (s x : Sheet) (ws : Known 2 s) (wx : Known 3 x) (k : ℕ) (h : k < x .count) (d : isData x k ≡ true) (j : ℕ) (g : j < s .count) where
-  pub key-shot : holdsKey Points s (shotKey (x .layout) (x .row k)) j ≡ isShot s x k j
+module _ (s x : Sheet) (ws : Known 2 s) (wx : Known 3 x) (e : s .rank ≡ x .rank) (k : ℕ) (h : k < x .count) (d : isData x k ≡ true) (j : ℕ) (g : j < s .count) where
+  pub key-shot : holdsKey Points s (shotKey (x .layout) (owned x k)) j ≡ isShot s x k j
   unfolding isShot isPointAt
-  key-shot = holds-point Points s _ j (isPoint s j) _ (takes-point s j g) (λ p. shot-is 2 s ws two j g p x wx k h d)
+  key-shot = holds-point Points s _ j (isPoint s j) _ (takes-point s j g) (λ p. shot-is 2 s ws two j g p x wx e k h d)
     where
       two : _≡_ {A = ℕ} 2 3 → ⊥
       two e = absurd (omega arith)
 
 pub held-at : (how : Reading) (s x : List ℕ) → Known 2 (sheetOf how s) → Known 3 (sheetOf how x) → (k : ℕ) → RelationLine (sheetOf how x) k
-    → (y : Key) → y ≡ shotKey sps93 (sheetOf how x .row k) → (j : ℕ) → j < sheetOf how s .count
+    → (y : Key) → y ≡ shotKey sps93 (owned (sheetOf how x) k) → (j : ℕ) → j < sheetOf how s .count
     → holdsKey Points (sheetOf how s) y j ≡ isShot (sheetOf how s) (sheetOf how x) k j
 held-at how s x ws wx k r y e j g =
     ap (λ (y : Key). holdsKey Points (sheetOf how s) y j)
-    (e ∙ ap (λ (L : Layout). shotKey L (sheetOf how x .row k)) (sym (layout-is how x)))
-    ∙ key-shot (sheetOf how s) (sheetOf how x) ws wx k (r .0) (r .1) j g
+    (e ∙ ap (λ (L : Layout). shotKey L (owned (sheetOf how x) k)) (sym (layout-is how x)))
+    ∙ key-shot (sheetOf how s) (sheetOf how x) ws wx (rank-same how s x) k (r .0) (r .1) j g
 
 -- the column of 13 and 14, and that a line can be numbered
 pub source-column : (how : Reading) (x : List ℕ) → 14 ≡ sheetOf how x .layout .source .first
@@ -60,11 +60,11 @@ sym-same a b = rw (sym-eqb (a .first) (b .first), sym-eqb (a .second) (b .second
     sym-eqb m n = agree _ _ (λ t. eq-eqb n m (sym (eqb-true m n t))) (λ t. eq-eqb m n (sym (eqb-true n m t)))
 
 -- a relation line names the shot in line k exactly where that is its shot's line
-module _ (s x : Sheet) (ws : KnownShots s) (wx : Known 3 x) (k : ℕ) (h : k < s .count) (p : isPoint s k ≡ true) where
+module _ (s x : Sheet) (ws : KnownShots s) (wx : Known 3 x) (e : s .rank ≡ x .rank) (k : ℕ) (h : k < s .count) (p : isPoint s k ≡ true) where
   pub names-shot : (i : ℕ) → i < x .count → isData x i ≡ true → namesKey x (keyAt Points s k) i ≡ isShot s x i k
   unfolding namesKey isShot isPointAt
   names-shot i g d =
-      sym-same (shotKey (x .layout) (x .row i)) (keyAt Points s k) ∙ shot-is 2 s (ws .0) two k h p x wx i g d ∙ (rw p)
+      sym-same (shotKey (x .layout) (owned x i)) (keyAt Points s k) ∙ shot-is 2 s (ws .0) two k h p x wx e i g d ∙ (rw p)
     where
       two : _≡_ {A = ℕ} 2 3 → ⊥
       two e = absurd (omega arith)

@@ -221,7 +221,7 @@ module _ (s x : Sheet) (ws : KnownShots s) (four : (k : ℕ) → k < x .count �
               omega arith)
 
 -- the same, by keys
-module _ (s x : Sheet) (o : Ordered s x) (k j : ℕ) (h : k < s .count) (p : Passed s x k j) where
+module _ (s x : Sheet) (o : Ordered s x) (same : s .rank ≡ x .rank) (k j : ℕ) (h : k < s .count) (p : Passed s x k j) where
   four : (i : ℕ) → i < x .count → Rule4 3 x i
   four = formed 3 x (o .relations) .rule4
 
@@ -237,7 +237,7 @@ module _ (s x : Sheet) (o : Ordered s x) (k j : ℕ) (h : k < s .count) (p : Pas
     by-key : (m : ℕ) → RelationLine x m → (namesKey x key m ≡ true) ↔ (lineOf s x m ≡ k)
     unfolding isShot
     by-key m r =
-        let u = ap (λ (w : Key). namesKey x w m) f ∙ names-shot s x (o .shots) (o .relations) k h z m (r .0) (r .1) in (
+        let u = ap (λ (w : Key). namesKey x w m) f ∙ names-shot s x (o .shots) (o .relations) same k h z m (r .0) (r .1) in (
           λ t. one-shot s x (o .shots) m k h (sym u ∙ t),
           λ g. u ∙ subst (λ (n : ℕ). isShot s x m n ≡ true) g (there s x (o .shots) four (o .met) m r .1),
         )

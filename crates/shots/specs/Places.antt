@@ -19,7 +19,7 @@ use Rattle.rules.specs.Sheet.{Sheet}
 use Rattle.rules.specs.Lines.{isData}
 use Rattle.rules.specs.Relations.{relationAt}
 use Rattle.rules.specs.Order.{isPointAt, shotLine, rule13, rule14, rule15}
-use Rattle.form.specs.Known.{Known}
+use Rattle.form.specs.Known.{owned, Known}
 use Rattle.keys.specs.Compare.{sameKey}
 use Rattle.keys.specs.Keys.{shotKey}
 use Rattle.keys.specs.Held.{RelationLine, KnownShots}
@@ -29,7 +29,7 @@ unfoldable pub isShot : Sheet → Sheet → ℕ → ℕ → Bool
 isShot s x k j = let v = relationAt x k in isPointAt s (v .source) (v .shot) (v .shotIndex) j
 
 unfoldable pub namesKey : Sheet → Key → ℕ → Bool
-namesKey x y i = sameKey (shotKey (x .layout) (x .row i)) y
+namesKey x y i = sameKey (shotKey (x .layout) (owned x i)) y
 
 unfoldable pub onward : Sheet → Sheet → ℕ → ℕ → ℕ
 onward s x k from = least (s .count) (λ j. leb from j && isShot s x k j)

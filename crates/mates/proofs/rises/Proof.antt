@@ -3,32 +3,37 @@ use mathlib.Core.Path.{_∙_}
 use borrow.Author.Needs.{needs}
 use Rattle.rules.specs.Sheet.{mostLines}
 use Rattle.lines.proofs.Sheets.{layout-is}
-use Rattle.mates.proofs.Mates.{some-before}
+use Rattle.keys.proofs.Read.{from-at, upto-at}
+use Rattle.mates.proofs.Mates.{some-before, line-before}
 use Rattle.mates.proofs.Sixteen.{seventeen-broken, seventeen-fine}
 use Rattle.mates.proofs.rises.Statement.{statement}
 use Rattle.mates.proofs.rises.Tie as tie
 
-line-of-requires : tie.Need-line-of-requires
-line-of-requires c κs = search needs
+own-of-requires : tie.Need-own-of-requires
+own-of-requires c κs = search needs
 
-sub-line-of : tie.Need-sub-line-of
-sub-line-of c = some-before _ _ (c .before .before .pre .1 .1)
+sub-own-of : tie.Need-sub-own-of
+sub-own-of c = some-before _ _ (c .before .before .pre .1 .1)
 
-line-of-requires-2 : tie.Need-line-of-requires-2
-line-of-requires-2 c κs = search needs
+own-of-requires-2 : tie.Need-own-of-requires-2
+own-of-requires-2 c κs = search needs
 
-number-at-requires : tie.Need-number-at-requires
-number-at-requires c κs = search needs
+number-requires : tie.Need-number-requires
+number-requires c κs = search needs
 
-number-at-requires-2 : tie.Need-number-at-requires-2
-number-at-requires-2 c κs = search needs
+number-requires-2 : tie.Need-number-requires-2
+number-requires-2 c κs = search needs
 
 returns : tie.Need-returns
 returns c =
     let d = c .before .before .before .before .before in
     let s = d .before .before .before in
-    seventeen-fine _ _ (s .pre .1 .1) (layout-is (s .args .how) (s .args .x .now)) _ _ (d .before .line-of .ensures) (d .line-of2 .ensures) _ _
-    (c .before .number-at2 .ensures) (c .before .before .before .number-at .ensures) (c .if1 .taken)
+    let a = s .args in
+    let p = s .pre in
+    seventeen-fine _ _ (p .1 .1) _ _
+    (c .before .number2 .ensures .0 ∙ from-at (a .how) (a .x .now) (p .0) _ (p .1 .0) _ (d .before .own-of .ensures))
+    (c .before .before .before .number .ensures .0
+    ∙ upto-at (a .how) (a .x .now) (p .0) _ (line-before _ (p .0) _ (p .1 .0) (p .1 .1)) _ (d .own-of2 .ensures)) (c .if1 .taken)
 
 at-line-requires : tie.Need-at-line-requires
 unfolding mostLines
@@ -39,19 +44,24 @@ returns-2 c =
     let b = c .before in
     let d = b .before .before .before .before .before in
     let s = d .before .before .before in
+    let a = s .args in
+    let p = s .pre in
     c .at-line .ensures
-    ∙ seventeen-broken _ _ (s .pre .1 .1) (layout-is (s .args .how) (s .args .x .now)) _ _ (d .before .line-of .ensures) (d .line-of2 .ensures) _ _
-    (b .before .number-at2 .ensures) (b .before .before .before .number-at .ensures) (b .if1 .left)
+    ∙ seventeen-broken _ _ (p .1 .1) _ _
+    (b .before .number2 .ensures .0 ∙ from-at (a .how) (a .x .now) (p .0) _ (p .1 .0) _ (d .before .own-of .ensures))
+    (b .before .before .before .number .ensures .0
+    ∙ upto-at (a .how) (a .x .now) (p .0) _ (line-before _ (p .0) _ (p .1 .0) (p .1 .1)) _ (d .own-of2 .ensures)) (b .if1 .left)
+    (layout-is (a .how) (a .x .now))
 
 pub rises-spec : {M : Type 1} → statement M
 rises-spec =
     tie.close
     (tie.spec
-    line-of-requires
-    sub-line-of
-    line-of-requires-2
-    number-at-requires
-    number-at-requires-2
+    own-of-requires
+    sub-own-of
+    own-of-requires-2
+    number-requires
+    number-requires-2
     returns
     at-line-requires
     returns-2)

@@ -8,7 +8,7 @@ use Rattle.relations.proofs.reach_fits.Statement.{statement}
 use Rattle.relations.proofs.reach_fits.Tie as tie
 
 first-row-requires : tie.Need-first-row-requires
-first-row-requires c κs = let p = c .before .before .before .before .pre in ((p .receivers, p .rows), p .lines .1 _ (p .lines .0) (omega arith) .0)
+first-row-requires c κs = let p = c .before .before .before .before .pre in ((p .receivers, p .rows), (p .relations, p .lines .1 _ (p .lines .0) (omega arith)))
 
 all-there-requires : tie.Need-all-there-requires
 all-there-requires c κs =
@@ -17,6 +17,7 @@ all-there-requires c κs =
       receivers = p .receivers;
       rows = p .rows;
       relations = p .relations;
+      alike = p .alike;
       line = p .lines .1 _ (p .lines .0) (omega arith);
       first = c .first-row .ensures;
     }

@@ -1,26 +1,63 @@
 -- `sets::check` meets its contract. Assumes nothing.
-use mathlib.Core.Path.{_∙_, ap}
-use Rattle.lines.specs.declared.Reading.{Reading}
-use Rattle.sets.specs.Paper.{checkOn}
+use Rattle.form.proofs.Laws.{is-broken, is-met}
+use Rattle.sets.proofs.Answers.{judged-across, known-set, refused-forms, refused-heads}
 use borrow.Author.Needs.{needs}
 use Rattle.sets.proofs.check.Statement.{statement}
 use Rattle.sets.proofs.check.Tie as tie
 
-disc-requires : tie.Need-disc-requires
-disc-requires c κs = search needs
+forms-requires : tie.Need-forms-requires
+forms-requires c κs = search needs
 
-check-on-requires : tie.Need-check-on-requires
-check-on-requires c κs = search needs
+enum-known-v : tie.Need-enum-known-v
+enum-known-v c = search needs
 
 returns : tie.Need-returns
-returns c =
-    let a = c .before .before .before .before .before .args in
-    c .check-on .ensures ∙ ap (λ (how : Reading). checkOn how (a .r .now) (a .s .now) (a .x .now)) (c .before .disc .ensures)
+returns c = refused-forms _ _ _ _ (is-broken _ _ (c .before .before .before .forms .ensures) (c .before .v .given .1))
+
+enum-told : tie.Need-enum-told
+enum-told c = search needs
+
+headers-fit-requires : tie.Need-headers-fit-requires
+headers-fit-requires c κs =
+    let a = c .before .before .before .before .before .before .args in
+    let k = known-set (a .how) (a .r .now) (a .s .now) (a .x .now) (is-met _ _ (c .before .before .forms .ensures) (c .enum-told .given .1)) in
+    (k .receivers .few, (k .shots .few, k .relations .few))
+
+enum-known-u : tie.Need-enum-known-u
+enum-known-u c = search needs
+
+returns-2 : tie.Need-returns-2
+returns-2 c =
+    let b = c .before .before .before in
+    refused-heads _ _ _ (is-met _ _ (b .before .before .before .forms .ensures) (b .before .enum-told .given .1)) _
+    (is-broken _ _ (b .headers-fit .ensures) (c .before .u .given .1))
+
+enum-told-2 : tie.Need-enum-told-2
+enum-told-2 c = search needs
+
+answer-across-requires : tie.Need-answer-across-requires
+answer-across-requires c κs =
+    let b = c .before .before .before in
+    let a = b .before .before .before .before .before .before .args in
+    known-set (a .how) (a .r .now) (a .s .now) (a .x .now) (is-met _ _ (b .before .before .forms .ensures) (b .enum-told .given .1))
+
+returns-3 : tie.Need-returns-3
+returns-3 c =
+    let b = c .before .before .before in
+    judged-across _ _ _ (is-met _ _ (b .before .before .before .forms .ensures) (b .before .enum-told .given .1)) _
+    (is-met _ _ (b .headers-fit .ensures) (c .before .enum-told2 .given .1)) (c .answer-across .ensures)
 
 pub check-spec : {M : Type 1} → statement M
 check-spec =
     tie.close
     (tie.spec
-    disc-requires
-    check-on-requires
-    returns)
+    forms-requires
+    enum-known-v
+    returns
+    enum-told
+    headers-fit-requires
+    enum-known-u
+    returns-2
+    enum-told-2
+    answer-across-requires
+    returns-3)

@@ -1,6 +1,7 @@
 -- `sets::relations_across` meets its contract. Assumes nothing.
 use mathlib.Core.Path.{sym}
 use lib.Seq.{length-take-le}
+use Rattle.lines.proofs.Sheets.{rank-same}
 use Rattle.keys.specs.declared.By.the-variants.{Receivers, Records}
 use Rattle.order.proofs.Taken.{order-taken}
 use Rattle.sets.proofs.Across.{few-rows, small-keys}
@@ -30,15 +31,19 @@ slice-aggregate-relations-fit c = sym (length-take-le _ _ (c .before .before .be
 relations-fit-requires : tie.Need-relations-fit-requires
 relations-fit-requires c κs =
     let b = c .before .before .before .before .before .before .before .before .before .before .before .before .before in
-    let p = b .before .before .before .before .before .before .before .before .pre in
-    let rows = c .before .before .before .before .before .before .in-order .ensures in
+    let s = b .before .before .before .before .before .before .before .before in
+    let a = s .args in
+    let p = s .pre in
+    let i = c .before .before .before .before .before .before .in-order in
+    let rows = i .ensures in
     record {
       receivers = p .0 .receivers;
       rows = order-taken _ _ _ _ _ rows;
       shots = p .0 .shots;
       relations = p .0 .relations;
+      alike = rank-same (a .how) (a .r .now) (a .x .now);
       first = b .first-repeat .ensures;
-      room = omega (arith, few-rows 1 _ (p .0 .receivers .0) Receivers _ _ rows, p .1 .1);
+      room = omega (arith, few-rows 1 _ (p .0 .receivers .0) Receivers _ _ rows, p .1 .1, b .first-repeat .kept, i .kept);
     }
 
 same-length : tie.Need-same-length

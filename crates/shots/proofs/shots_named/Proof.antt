@@ -2,6 +2,7 @@ use Rattle.rules.specs.Plan.{fine, run, upTo}
 use Rattle.rules.specs.Order.{rule15}
 use Rattle.rules.proofs.Steps.{none-yet, one-more, stops-here}
 use Rattle.lines.specs.Reading.{sheetOf}
+use Rattle.lines.proofs.Sheets.{rank-same}
 use Rattle.form.proofs.Known.{formed}
 use Rattle.shots.proofs.Held.{line-small}
 use Rattle.shots.proofs.Named.{Passed, at-first, step-other, step-named, step-unnamed}
@@ -58,7 +59,7 @@ returns c =
     let h : at .k < sheetOf (a .how) (a .s .now) .count = omega (arith, c .before .before .before .before .before .before .loop-test .taken) in
     c .at-line .ensures
     ∙ stops-here _ (at .k) _ _ h (at .inv .1 .1)
-    (step-unnamed _ _ p (at .k) (at .j) h (at .inv .1 .0) _ (c .before .before .before .before .before .takes .ensures)
+    (step-unnamed _ _ p (rank-same (a .how) (a .s .now) (a .x .now)) (at .k) (at .j) h (at .inv .1 .0) _ (c .before .before .before .before .before .takes .ensures)
     (c .before .before .before .before .if1 .taken) _ (c .before .before .before .key-of .ensures) _ (c .before .before .past .ensures)
     (c .before .if2 .taken))
 
@@ -76,7 +77,7 @@ loop-again c =
     let at = b .loop in
     let n = b .before .before .line-count .ensures in
     let h : at .k < sheetOf (a .how) (a .s .now) .count = omega arith in
-    let w = step-named _ _ p (at .k) (at .j) h (at .inv .1 .0) _ (c .before .before .before .before .takes .ensures)
+    let w = step-named _ _ p (rank-same (a .how) (a .s .now) (a .x .now)) (at .k) (at .j) h (at .inv .1 .0) _ (c .before .before .before .before .takes .ensures)
     (c .before .before .before .if1 .taken) _ (c .before .before .key-of .ensures) _ (c .before .past .ensures) (c .if2 .left) in
     (omega arith, (w .1, one-more _ (at .k) (at .inv .1 .1) (w .0)))
 
@@ -93,7 +94,7 @@ loop-again-2 c =
     let at = c .before .before .before .loop in
     let n = c .before .before .before .before .before .line-count .ensures in
     let h : at .k < sheetOf (a .how) (a .s .now) .count = omega arith in
-    let w = step-other _ _ p (at .k) (at .j) h (at .inv .1 .0) _ (c .before .takes .ensures) (c .if1 .left) in
+    let w = step-other _ _ p (rank-same (a .how) (a .s .now) (a .x .now)) (at .k) (at .j) h (at .inv .1 .0) _ (c .before .takes .ensures) (c .if1 .left) in
     (omega arith, (w .1, one-more _ (at .k) (at .inv .1 .1) (w .0)))
 
 returns-2 : tie.Need-returns-2 Inv-loop μ-loop

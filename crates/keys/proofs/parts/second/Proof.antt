@@ -22,8 +22,8 @@ pack-requires-2 c κs = search needs
 enum-told-3 : tie.Need-enum-told-3
 enum-told-3 c = search needs
 
-number-requires : tie.Need-number-requires
-number-requires c κs = search needs
+pack-requires-3 : tie.Need-pack-requires-3
+pack-requires-3 c κs = search needs
 
 returns : tie.Need-returns
 unfolding keyOf
@@ -35,7 +35,7 @@ returns-2 c = rw (c .before .enum-told2 .given .1) (c .pack2 .ensures ∙ name-l
 
 returns-3 : tie.Need-returns-3
 unfolding keyOf at sps93
-returns-3 c = rw (c .before .enum-told3 .given .1) (c .number .ensures .0)
+returns-3 c = rw (c .before .enum-told3 .given .1) (c .pack3 .ensures)
 
 pub second-spec : {M : Type 1} → statement M
 second-spec =
@@ -46,7 +46,7 @@ second-spec =
     enum-told-2
     pack-requires-2
     enum-told-3
-    number-requires
+    pack-requires-3
     returns
     returns-2
     returns-3)

@@ -2,7 +2,6 @@
 use Prim.Native.Nat.{_*_, _+_, ℕ}
 use Rattle.keys.specs.Keys.{keyOf}
 use Rattle.rules.specs.Layout.{at, sps93}
-use Rattle.rules.specs.Points.{indexAt}
 use borrow.Author.Needs.{needs}
 use mathlib.Core.Path.{ap₂}
 use Rattle.keys.proofs.parts.third.Statement.{statement}
@@ -17,11 +16,8 @@ number-requires c κs = search needs
 mul-result : tie.Need-mul-result
 mul-result c = search needs
 
-index-at-requires : tie.Need-index-at-requires
-index-at-requires c κs = search needs
-
-cast-result : tie.Need-cast-result
-cast-result c = search needs
+index-requires : tie.Need-index-requires
+index-requires c κs = search needs
 
 add-result : tie.Need-add-result
 add-result c = search needs
@@ -29,11 +25,8 @@ add-result c = search needs
 enum-told-2 : tie.Need-enum-told-2
 enum-told-2 c = search needs
 
-index-at-requires-2 : tie.Need-index-at-requires-2
-index-at-requires-2 c κs = search needs
-
-cast-result-2 : tie.Need-cast-result-2
-cast-result-2 c = search needs
+index-requires-2 : tie.Need-index-requires-2
+index-requires-2 c κs = search needs
 
 mul-result-2 : tie.Need-mul-result-2
 mul-result-2 c = search needs
@@ -48,16 +41,16 @@ enum-told-3 : tie.Need-enum-told-3
 enum-told-3 c = search needs
 
 returns : tie.Need-returns
-unfolding keyOf indexAt at sps93
+unfolding keyOf at sps93
 returns c =
     rw (c .before .before .enum-told .given .1)
-    (ap₂ (λ (p i : ℕ). 256 * p + i) (c .before .number .ensures .0) (c .index-at .ensures))
+    (ap₂ (λ (p i : ℕ). 256 * p + i) (c .before .number .ensures .0) (c .index .ensures .0))
 
 returns-2 : tie.Need-returns-2
-unfolding keyOf indexAt at sps93
+unfolding keyOf at sps93
 returns-2 c =
     rw (c .before .before .enum-told2 .given .1)
-    (ap₂ (λ (i p : ℕ). 4294967296 * i + p) (c .before .index-at2 .ensures) (c .number2 .ensures .0))
+    (ap₂ (λ (i p : ℕ). 4294967296 * i + p) (c .before .index2 .ensures .0) (c .number2 .ensures .0))
 
 returns-3 : tie.Need-returns-3
 unfolding keyOf
@@ -70,12 +63,10 @@ third-spec =
     enum-told
     number-requires
     mul-result
-    index-at-requires
-    cast-result
+    index-requires
     add-result
     enum-told-2
-    index-at-requires-2
-    cast-result-2
+    index-requires-2
     mul-result-2
     number-requires-2
     add-result-2

@@ -1,7 +1,7 @@
 -- `points::receivers::last_point` meets its contract. Assumes nothing.
 use native.Mathlib.Omega.{arith}
 use borrow.Author.Needs.{needs}
-use Rattle.lines.proofs.Sheets.{room}
+use Rattle.lines.proofs.Sheets.{within}
 use Rattle.points.proofs.Last.{last-here, last-other}
 use Rattle.points.proofs.receivers.last_point.Statement.{statement}
 use Rattle.points.proofs.receivers.last_point.Tie as tie
@@ -12,7 +12,7 @@ takes-requires c κs = search needs
 add-result : tie.Need-add-result
 add-result c =
     let s = c .before .before .before in
-    let h = room (s .args .how) (s .args .f .now) (s .args .k) (s .pre .0) in
+    let h = within (s .args .how) (s .args .f .now) (s .args .k) (s .pre .0) in
     omega arith
 
 returns : tie.Need-returns

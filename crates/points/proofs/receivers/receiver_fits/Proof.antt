@@ -3,7 +3,7 @@ use mathlib.Core.Path.{_∙_}
 use borrow.Author.Needs.{needs}
 use borrow.Author.Tests.{not-false, not-true}
 use Rattle.rules.specs.Sheet.{mostLines}
-use Rattle.lines.proofs.Sheets.{layout-is, rank-is}
+use Rattle.lines.proofs.Sheets.{layout-is}
 use Rattle.points.proofs.Above.{ten-above, ten-broken, ten-first, ten-other}
 use Rattle.points.proofs.Last.{point-off, point-on}
 use Rattle.points.proofs.receivers.receiver_fits.Statement.{statement}
@@ -22,7 +22,7 @@ returns-2 c =
     let a = c .before .before .before .before .args in
     let p = c .before .before .before .before .pre in
     let on = point-on _ _ (p .1 .0) _ (c .before .before .takes .ensures) (not-false _ (c .before .if1 .left)) in
-    ten-first _ _ (p .0) (rank-is (a .how) (a .r .now)) (p .1 .0) on _ (p .1 .1) (c .if2 .taken)
+    ten-first _ _ (p .0) (p .1 .0) on _ (p .1 .1) (c .if2 .taken)
 
 sub-less : tie.Need-sub-less
 sub-less c = search needs
@@ -36,7 +36,7 @@ returns-3 c =
     let a = d .before .before .before .before .args in
     let p = d .before .before .before .before .pre in
     let on = point-on _ _ (p .1 .0) _ (d .before .before .takes .ensures) (not-false _ (d .before .if1 .left)) in
-    ten-above _ _ (p .0) (rank-is (a .how) (a .r .now)) (p .1 .0) on _ (p .1 .1) (d .if2 .left) _ (c .before .less .ensures) (c .if3 .taken)
+    ten-above _ _ (p .0) (p .1 .0) on _ (p .1 .1) (d .if2 .left) _ (c .before .less .ensures) (c .if3 .taken)
 
 at-line-requires : tie.Need-at-line-requires
 unfolding mostLines
@@ -49,7 +49,7 @@ returns-4 c =
     let p = d .before .before .before .before .pre in
     let on = point-on _ _ (p .1 .0) _ (d .before .before .takes .ensures) (not-false _ (d .before .if1 .left)) in
     c .at-line .ensures
-    ∙ ten-broken _ _ (p .0) (rank-is (a .how) (a .r .now)) (p .1 .0) on _ (p .1 .1) (d .if2 .left) _ (c .before .before .less .ensures)
+    ∙ ten-broken _ _ (p .0) (p .1 .0) on _ (p .1 .1) (d .if2 .left) _ (c .before .before .less .ensures)
     (c .before .if3 .left) (layout-is (a .how) (a .r .now))
 
 pub receiver-fits-spec : {M : Type 1} → statement M
