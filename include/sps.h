@@ -3,9 +3,14 @@
  *
  * Conventions
  *
- * A set is three files in the disc form: R (receivers), S (shots), X (relations), lines of 80
- * columns, CR and LF. Lines and columns count from 1. Every call takes the three files first, each
- * as a pointer to its bytes and their number.
+ * A set is three files: R (receivers), S (shots), X (relations), lines of 80 columns. On disc CR
+ * and LF end each line. On tape a line is a record of 80 bytes, code page 037 (EBCDIC), and a
+ * record with EOF in columns 1 to 3 ends the file; its other columns hold any bytes. Lines and
+ * columns count from 1, and the EOF record is a line. Every call takes the medium of the set first,
+ * one of enum sps_medium, then the three files, each as a pointer to its bytes and their number.
+ *
+ * A tape is judged as its translation; the order of receivers alone (10) is that of the tape's own
+ * bytes, in which letters come before digits. Questions and answers are in ASCII on both media.
  *
  * Every call answers one 64-bit number. A refusal is
  *
@@ -16,12 +21,13 @@
  * channel, or the highest channel, and 0 where there is none. An accepted set without traces
  * answers 0 too. The inline functions at the end take a number apart.
  *
- * A refusal is the first breach in this order: a question out of range (20); the form of R, then
- * S, then X (1 to 6); the headers (7 to 9); the receivers (10); the shots (11, 12); the relations
- * (13, 14, 16 to 19); a shot that none names (15); slices too short (21). It writes nothing.
+ * A refusal is the first breach in this order: a medium that is neither (20, before all else); a
+ * question out of range (20); the form of R, then S, then X (1, 2, on tape 29, then 3 to 6 line by
+ * line); the headers (7 to 9); the receivers (10); the shots (11, 12); the relations (13, 14, 16 to
+ * 19); a shot that none names (15); slices too short (21). It writes nothing.
  *
- * A call takes any bytes and any numbers. The numbers of a question are 64-bit, so that nothing is
- * cut before it is judged.
+ * A call takes any bytes and any numbers. The medium and the numbers of a question are 64-bit, so
+ * that nothing is cut before it is judged.
  *
  * What the host keeps
  *
@@ -43,18 +49,27 @@
 extern "C" {
 #endif
 
-/* The refusal numbers, in the paper's order. */
+/* What the three files of a set are written on. */
+enum sps_medium {
+    SPS_DISC = 1,
+    SPS_TAPE = 2
+};
+
+/*
+ * The refusal numbers, in the paper's order. A tape takes a blank, letters, digits and
+ * . , ; : ( ) - + / & ' % * = ? _ < > in columns 1 to 80.
+ */
 enum sps_number {
-    SPS_FILE_LENGTH = 1,     /* the file's length is no multiple of 82 */
-    SPS_TOO_MANY_LINES = 2,  /* more than 9,999 lines */
-    SPS_BYTE = 3,            /* a byte outside its range, or no CR or LF at 81, 82 */
+    SPS_FILE_LENGTH = 1,     /* the file's length is no multiple of 82, on tape of 80 */
+    SPS_TOO_MANY_LINES = 2,  /* more than 9,999 lines, on tape with the EOF record */
+    SPS_BYTE = 3,            /* a byte that is not taken, or no CR or LF at 81, 82 of a disc */
     SPS_LETTER = 4,          /* column 1 is not H or the file's letter, or H after data */
     SPS_FIELD = 5,           /* a field breaks its rule; the column is its first */
     SPS_CHANNELS = 6,        /* channels or receivers are crossed, or do not fit each other */
     SPS_HEADER_TYPE = 7,     /* R's header lacks one of the types 00 to 20 */
     SPS_H18 = 8,             /* an H18 that holds nothing, or N/A */
     SPS_HEADER_DIFFERS = 9,  /* the header of S or X differs from R's */
-    SPS_RECEIVER_ORDER = 10, /* a receiver is not above the one before it */
+    SPS_RECEIVER_ORDER = 10, /* a receiver is not above the one before, in the medium's bytes */
     SPS_SHOT_EARLIER = 11,   /* a shot is earlier than the one before it */
     SPS_SHOT_REPEATED = 12,  /* a shot repeats an earlier one */
     SPS_NO_SHOT = 13,        /* no shot is the relation line's source */
@@ -64,8 +79,9 @@ enum sps_number {
     SPS_CHANNEL_ORDER = 17,  /* the channels of a record do not ascend */
     SPS_NO_RECEIVER = 18,    /* a covered receiver is not there */
     SPS_COVERED_TWICE = 19,  /* a receiver is covered twice in a record */
-    SPS_QUESTION_RANGE = 20, /* a question is out of range */
-    SPS_SLICE_LENGTH = 21    /* a slice of the spread table is too short */
+    SPS_QUESTION_RANGE = 20, /* a question is out of range, or the medium is neither */
+    SPS_SLICE_LENGTH = 21,   /* a slice of the spread table is too short */
+    SPS_TAPE_END = 29        /* no EOF record ends the tape, or records follow the first */
 };
 
 /* The file of a refusal. */
@@ -78,10 +94,10 @@ enum sps_file {
 
 /*
  * Checks a set. Answers the number of its traces, which are the channels of all relation lines, or
- * a refusal, 1 to 19.
+ * a refusal, 1 to 19 or 29, and 20 for the medium.
  */
-uint64_t sps_check(const uint8_t *r, size_t r_len, const uint8_t *s, size_t s_len,
-                   const uint8_t *x, size_t x_len);
+uint64_t sps_check(uint64_t medium, const uint8_t *r, size_t r_len, const uint8_t *s,
+                   size_t s_len, const uint8_t *x, size_t x_len);
 
 /* The places of the counts. */
 enum sps_place {
@@ -99,34 +115,35 @@ enum sps_place {
  * whole: counts_len / 8 places, at most four. Every other byte stays, also the last ones that are
  * too few for a place and all from byte 32 on. A refusal writes nothing. 32 bytes take all four.
  */
-uint64_t sps_counts(const uint8_t *r, size_t r_len, const uint8_t *s, size_t s_len,
-                    const uint8_t *x, size_t x_len, uint8_t *counts, size_t counts_len);
+uint64_t sps_counts(uint64_t medium, const uint8_t *r, size_t r_len, const uint8_t *s,
+                    size_t s_len, const uint8_t *x, size_t x_len, uint8_t *counts,
+                    size_t counts_len);
 
 /*
  * From a trace to its receiver. Answers R line * 16 + component, 0 where there is no such trace, or
- * a refusal, 1 to 20.
+ * a refusal, 1 to 20 or 29.
  *
  * The tape is 6 columns of bytes 32 to 126 of which the first is no blank, the record is 0 to 9999,
  * the channel 1 to 9999. Anything else is refused with 20, before the set is looked at.
  */
-uint64_t sps_trace(const uint8_t *r, size_t r_len, const uint8_t *s, size_t s_len,
-                   const uint8_t *x, size_t x_len, const uint8_t *tape, size_t tape_len,
-                   uint64_t record, uint64_t channel);
+uint64_t sps_trace(uint64_t medium, const uint8_t *r, size_t r_len, const uint8_t *s,
+                   size_t s_len, const uint8_t *x, size_t x_len, const uint8_t *tape,
+                   size_t tape_len, uint64_t record, uint64_t channel);
 
 /*
  * The way back, from a line of R and a component to the channel. Answers the channel, 0 where there
- * is no such trace (also where the line is a header, a marker or beyond the file), or a refusal,
- * 1 to 20.
+ * is no such trace (also where the line is a header, a marker, an EOF record or beyond the file),
+ * or a refusal, 1 to 20 or 29.
  *
  * The tape and the record are as for sps_trace, the line is 1 to 9999, the component 1 to 9.
  */
-uint64_t sps_channel(const uint8_t *r, size_t r_len, const uint8_t *s, size_t s_len,
-                     const uint8_t *x, size_t x_len, const uint8_t *tape, size_t tape_len,
-                     uint64_t record, uint64_t r_line, uint64_t component);
+uint64_t sps_channel(uint64_t medium, const uint8_t *r, size_t r_len, const uint8_t *s,
+                     size_t s_len, const uint8_t *x, size_t x_len, const uint8_t *tape,
+                     size_t tape_len, uint64_t record, uint64_t r_line, uint64_t component);
 
 /*
  * The spread table of a record. Answers its highest covered channel, 0 where the record is absent,
- * or a refusal, 1 to 21. The tape and the record are as for sps_trace.
+ * or a refusal, 1 to 21 or 29. The tape and the record are as for sps_trace.
  *
  * Place c-1 takes the R line and the component of channel c, or 0 and 0 where c is not covered, for
  * each c up to the answer. Later places stay, and an absent record writes nothing. A place of
@@ -134,10 +151,10 @@ uint64_t sps_channel(const uint8_t *r, size_t r_len, const uint8_t *s, size_t s_
  * place and stays. Where either slice has fewer places than the highest channel it is 21, after the
  * set's own refusals. Lengths are in bytes: 19998 and 9999 are enough for every record.
  */
-uint64_t sps_spread(const uint8_t *r, size_t r_len, const uint8_t *s, size_t s_len,
-                    const uint8_t *x, size_t x_len, const uint8_t *tape, size_t tape_len,
-                    uint64_t record, uint8_t *lines, size_t lines_len, uint8_t *components,
-                    size_t components_len);
+uint64_t sps_spread(uint64_t medium, const uint8_t *r, size_t r_len, const uint8_t *s,
+                    size_t s_len, const uint8_t *x, size_t x_len, const uint8_t *tape,
+                    size_t tape_len, uint64_t record, uint8_t *lines, size_t lines_len,
+                    uint8_t *components, size_t components_len);
 
 /* Whether an answer is a refusal: 1 or 0. */
 static inline int sps_is_refused(uint64_t answer)

@@ -1,10 +1,13 @@
-// The sets of the folders that the file `names` lists, a name to a line: for each its name, a blank and the line of its verdict. Every
-// refusal number of the set check has a folder; for 2, which takes 10,000 lines, the buffer of R has room for them and a line more.
+// The sets of the folders that two files list, `names` those of disc files and `tapes` those of tapes, a name to a line: for each its
+// name, a blank and the line of its verdict. Every refusal number of the set check has a folder; for 2, which takes 10,000 lines, the buffer
+// of R has room for them and a line more.
 ghost use mathlib.Core.Path.{_≡_};
 ghost use Prim.Native.Nat.{_≤_};
 ghost use lib.ListN.{length};
 use files::Input;
 use libc::STDOUT_FILENO;
+use lines::Choice;
+use lines::Reading;
 
 // Where the line ends that begins at n.
 fn end(names: &[u8], n: usize) -> usize
@@ -35,8 +38,19 @@ fn path(folder: &[u8], file: &[u8; 8], out: &mut [u8]) -> usize
     n + 8
 }
 
+// The line of the files at three paths, read in one way into lent buffers.
+fn said(how: Reading, r: &[u8], s: &[u8], x: &[u8], a: &mut [u8], b: &mut [u8], c: &mut [u8]) {
+    let i = files::size(files::load(r, a).input());
+    let j = files::size(files::load(s, b).input());
+    let k = files::size(files::load(x, c).input());
+    let v = sets::check(how, &a[..i], &b[..j], &c[..k]);
+    let mut line = [0u8; 96];
+    let n = words::verdict(v, &mut line);
+    io::write_all(STDOUT_FILENO, &line[..n]);
+}
+
 // The line of one folder.
-fn one(folder: &[u8]) {
+fn one(how: Reading, folder: &[u8]) {
     let mut r = [0u8; 64];
     let mut s = [0u8; 64];
     let mut x = [0u8; 64];
@@ -48,7 +62,8 @@ fn one(folder: &[u8]) {
     let mut large = [0u8; 820082];
     let mut second = io::large_buffer();
     let mut third = io::large_buffer();
-    files::print(
+    said(
+        how,
         &r[..a],
         &s[..b],
         &x[..c],
@@ -58,19 +73,27 @@ fn one(folder: &[u8]) {
     );
 }
 
-// The lines of all folders.
-fn each(names: &[u8]) {
+// The lines of all folders of a list.
+fn each(how: Reading, names: &[u8]) {
     let mut n = 0;
     while n < names.len() {
         let e = end(names, n);
-        one(&names[n..e]);
+        one(how, &names[n..e]);
         n = e + 1;
     }
 }
 
-fn main() {
+// The lines of the folders that a file lists.
+fn listed(how: Reading, list: &[u8]) {
     let mut names = io::buffer();
-    if let Input::Bytes(n) = files::load(b"names", &mut names).input() {
-        each(&names[..n]);
+    if let Input::Bytes(n) = files::load(list, &mut names).input() {
+        each(how, &names[..n]);
+    }
+}
+
+fn main() {
+    listed(lines::disc(), b"names");
+    if let Choice::On(how) = lines::chosen(2) {
+        listed(how, b"tapes");
     }
 }

@@ -10,6 +10,8 @@ use Rattle.files.proofs.input.path_of as path-of
 use Rattle.files.proofs.input.path_of.Reads as path-of-reads
 use Rattle.files.proofs.input.Loaded.input as input
 use Rattle.files.proofs.input.Loaded.input.Reads as input-reads
+use Rattle.files.proofs.input.size as size
+use Rattle.files.proofs.input.size.Reads as size-reads
 use Rattle.files.proofs.report as report
 use Rattle.files.proofs.report.Reads as report-reads
 
@@ -24,6 +26,9 @@ path-of-one κs a v v′ w w′ p p′ = (p ∙ sym p′, refl)
 
 pub input-one : One input.ended input-reads.Post
 input-one κs a v v′ w w′ p p′ = (p ∙ sym p′, refl)
+
+pub size-one : One size.ended size-reads.Post
+size-one κs a v v′ w w′ p p′ = (p ∙ sym p′, refl)
 
 pub report-one : One report.ended report-reads.Post
 report-one κs a v v′ w w′ p p′ = (

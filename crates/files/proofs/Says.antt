@@ -1,6 +1,6 @@
 -- What is said in a lent buffer, and the first that says something.
 --   Says f o o′ n = o′ is o with f in its first places, and n the length of f
-use mathlib.Core.Path.{_≡_, refl, ap, sym, _∙_}
+use mathlib.Core.Path.{_≡_, ap, _∙_}
 use mathlib.Core.List.{List, [], _∷_}
 use Prim.Native.Nat.{ℕ, _≤_, zero-le}
 use native.Mathlib.Omega.{arith}
@@ -10,6 +10,7 @@ use Rattle.rules.specs.Places.{pick}
 use Rattle.rules.specs.Disc.{file}
 use Rattle.rules.specs.Check.{check}
 use Rattle.lines.specs.Reading.{onDisc, sheetOf}
+use Rattle.lines.specs.declared.Reading.{Reading}
 use Rattle.sets.specs.declared.Answer.{Answer}
 use Rattle.sets.specs.Paper.{paper, checkOn}
 use Rattle.words.specs.Words.{line}
@@ -38,10 +39,10 @@ unfolding _orElse_
 says-next [] {g} {o} e z s = record { value = s .value; written = s .written ∙ ap (over g) (e .written ∙ over-none o) }
 says-next (b ∷ f) e z s = absurd (omega (arith, e .value))
 
-pub says-verdict :
-    (v : Answer) (p q t p′ q′ t′ o o′ : List ℕ) (n : ℕ) → paper v ≡ checkOn onDisc p q t → p ≡ p′ → q ≡ q′ → t ≡ t′
+pub says-verdict : (how : Reading) → how ≡ onDisc
+    → (v : Answer) (p q t p′ q′ t′ o o′ : List ℕ) (n : ℕ) → paper v ≡ checkOn how p q t → p ≡ p′ → q ≡ q′ → t ≡ t′
     → Says (line (paper v)) o o′ n → Says (line (check (file p′) (file q′) (file t′))) o o′ n
 unfolding sheetOf
-says-verdict v p q t p′ q′ t′ o o′ n e a b d s =
-    let f : paper v ≡ check (file p) (file q) (file t) = e in
+says-verdict how h v p q t p′ q′ t′ o o′ n e a b d s =
+    let f : paper v ≡ check (file p) (file q) (file t) = e ∙ ap (λ (w : Reading). checkOn w p q t) h in
     rw (← a, ← b, ← d, ← f) s

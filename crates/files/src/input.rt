@@ -136,3 +136,14 @@ pub fn load(text: &[u8], buf: &mut [u8]) -> Loaded
     let input = take_in(open(path), buf);
     Loaded { path, input }
 }
+
+// How many bytes of a file were read.
+pub fn size(i: Input) -> usize
+    ensures value { λ n. ⌜ n ≡ sizeOf i ⌝ }
+{
+    match i {
+        Input::Missing => 0,
+        Input::Longer => 0,
+        Input::Bytes(n) => n,
+    }
+}

@@ -13,6 +13,7 @@ mod input;
 pub use input::Input;
 pub use input::Loaded;
 pub use input::load;
+pub use input::size;
 
 // What was said of three files: the length of their line, and what was found of each.
 pub struct Said {
@@ -80,7 +81,10 @@ pub fn report(i: Input, r: &[u8], j: Input, s: &[u8], k: Input, x: &[u8], out: &
     if c != 0 {
         return c;
     }
-    words::verdict(sets::check(part(i, r), part(j, s), part(k, x)), out)
+    words::verdict(
+        sets::check(lines::disc(), part(i, r), part(j, s), part(k, x)),
+        out,
+    )
 }
 
 // Reads the files at three paths into lent buffers and says what they are.

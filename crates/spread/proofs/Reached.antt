@@ -95,7 +95,7 @@ module _ (r x : Sheet) (ok : Accepted r x) (k : ℕ) (h : RelationLine x k) (q :
 
       pub row-inside : row + (n - q .«from_receiver») < length o
       row-inside =
-          let s = stand r o (known-receivers r x ok) v x k (ok .relations) h (all-there r x ok k h) (n - q .«from_receiver») after .0 in
+          let s = stand r o (known-receivers r x ok) v x k (ok .relations) (ok .alike) h (all-there r x ok k h) (n - q .«from_receiver») after .0 in
           omega arith
 
       pub row-low : row + (n - q .«from_receiver») < 9999
@@ -117,5 +117,5 @@ module _ (r x : Sheet) (ok : Accepted r x) (k : ℕ) (h : RelationLine x k) (q :
       row-is =
           ap (λ (i : ℕ). i + 1)
           (ap (λ (i : ℕ). nth o (i + (n - q .«from_receiver»))) er
-          ∙ row-line r o (known-receivers r x ok) v x k (ok .relations) h (all-there r x ok k h) (n - q .«from_receiver») after
+          ∙ row-line r o (known-receivers r x ok) v x k (ok .relations) (ok .alike) h (all-there r x ok k h) (n - q .«from_receiver») after
           ∙ ap (receiverLine r p) on)

@@ -2,7 +2,7 @@
 --   Asked t n      = a tape and a record that can be asked for
 --   wantedOf t n   = they as the code has them, the tape as one number
 --   isOf x w k     = line k of X is a relation line of that tape and record
---   Accepted r x   = R and X stand in an accepted set, with some S
+--   Accepted r x   = R and X stand in an accepted set, with some S, in one medium
 --   InSet x        = X stands in one, with some R
 use Prim.Native.Nat.{ℕ}
 use mathlib.Core.Path.{_≡_}
@@ -34,6 +34,7 @@ pub record Accepted (r x : Sheet) : Type 0 where
   pub met : fine ≡ run (rules r shots x)
   pub receivers : Known 1 r
   pub relations : Known 3 x
+  pub alike : r .rank ≡ x .rank
 
 abbrev pub InSet : Sheet → Type 0
 InSet x = (r : Sheet) × Accepted r x

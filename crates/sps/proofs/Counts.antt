@@ -6,21 +6,22 @@
 use Prim.Native.Nat.{ℕ, zero, suc, _+_, _*_, _/_, _^_, _≤_, _<_}
 use native.Mathlib.Nat.{pow-succ'}
 use native.Mathlib.Omega.{arith}
-use mathlib.Core.Path.{_≡_, refl, sym, ap, subst, _∙_}
+use mathlib.Core.Path.{_≡_, refl, ap, subst, _∙_}
 use mathlib.Core.Bool.{Bool, true, false}
 use mathlib.Core.List.{List, [], _∷_, _++_}
 use lib.ListN.{length, getD, take, drop, replicate, length-drop}
 use lib.Seq.{take-at, drop-at, drop-drop}
 use Rattle.rules.specs.Places.{pick, count}
 use Rattle.rules.specs.Plan.{Refusal}
-use Rattle.rules.specs.Sheet.{mostLines}
-use Rattle.rules.specs.Disc.{disc, file}
+use Rattle.rules.specs.Sheet.{Sheet, mostLines, allLines}
+use Rattle.rules.specs.Medium.{Medium, sheet}
 use Rattle.rules.specs.Layout.{sps93}
 use Rattle.rules.specs.Lines.{isData, isPoint}
 use Rattle.rules.specs.Check.{Answer, accepted, refusal, trace, channel, highest, noTrace, check}
 use Rattle.rules.specs.MeetsForm.{Data, Point}
 use Rattle.rules.proofs.Form.{data-is, point-is}
 use Rattle.rules.proofs.Counts.{how-many, how-much, accepted-is}
+use Rattle.rules.proofs.Medium.{Lawful}
 use Rattle.rules.proofs.Hosts.{Sized, check-sized}
 use Rattle.sps.specs.Counts.{lowBytes, placed, counted}
 use Rattle.sps.specs.Said.{valueOf, readAt}
@@ -101,18 +102,25 @@ each n m k t a b c d (suc (suc zero)) = c
 each n m k t a b c d (suc (suc (suc zero))) = d
 each n m k t a b c d (suc (suc (suc (suc i)))) = omega arith
 
-module _ (r s x : List ℕ) where
+module _ (M : Medium) (g : Lawful M) (r s x : List ℕ) where
+  abbrev file : List ℕ → Sheet
+  file = sheet M sps93
+
+  few-lines : (f : List ℕ) → allLines (file f) ≤ mostLines → file f .count ≤ mostLines
+  few-lines f h = omega arith
+
   counts-few : (n m k t : ℕ) → check (file r) (file s) (file x) ≡ accepted n m k t → (i : ℕ) → getD (n ∷ m ∷ k ∷ t ∷ []) i 0 < 256 ^ 8
-  unfolding mostLines disc sps93
+  unfolding mostLines sheet sps93
   counts-few n m k t q =
       let w = accepted-is (file r) (file s) (file x) n m k t .0 q in
       let ok = w .0 in
       let c = w .1 in
-      let few : t < 2 ^ 40 = subst Sized q (check-sized r s x) in
+      let few : t < 2 ^ 40 = subst Sized q (check-sized M g r s x) in
       let a = how-many (file r) (isPoint (file r)) (Point (file r)) (point-is (file r)) n .0 (c .receivers) in
       let b = how-many (file s) (isPoint (file s)) (Point (file s)) (point-is (file s)) m .0 (c .shots) in
       let d = how-much (file x) (isData (file x)) (Data (file x)) (data-is (file x)) _ k t .0 (c .relations) .0 in
-      each n m k t (fits _ n _ (ok .formR .rule2) a) (fits _ m _ (ok .formS .rule2) b) (fits _ k _ (ok .formX .rule2) d) (omega arith)
+      each n m k t (fits _ n _ (few-lines r (ok .formR .rule2)) a) (fits _ m _ (few-lines s (ok .formS .rule2)) b) (fits _ k _ (few-lines x (ok .formX .rule2)) d)
+      (omega arith)
 
   -- o stands in the slice before the call, and e afterwards
   module _ (o e : List ℕ) (w : e ≡ counted (check (file r) (file s) (file x)) o) where

@@ -1,7 +1,14 @@
 -- The contracts of this crate leave one outcome: any two results, and contents of the lent slices, that meet one of them are the same.
-use mathlib.Core.Path.{refl, sym, ap, _∙_}
+use Prim.Native.Nat.{ℕ}
+use mathlib.Core.Path.{_≡_, refl, sym, ap, _∙_}
+use mathlib.Core.List.{List}
+use Rattle.rules.specs.Medium.{Medium}
+use Rattle.rules.specs.Calls.{Choice, on, none, choice}
 use Rattle.rules.specs.Hosts.{hostNumber}
+use Rattle.traces.specs.Calls.{Table}
+use Rattle.sps.specs.Table.{SpreadTold}
 use Rattle.outcome.specs.One.{One, both}
+use Rattle.sets.proofs.One.{answer-one as set-one}
 use Rattle.sps.proofs.pack as pack
 use Rattle.sps.proofs.pack.Reads as pack-reads
 use Rattle.sps.proofs.set_number as set-number
@@ -16,6 +23,8 @@ use Rattle.sps.proofs.places.put as places-put
 use Rattle.sps.proofs.places.put.Reads as places-put-reads
 use Rattle.sps.proofs.places.put_all as places-put-all
 use Rattle.sps.proofs.places.put_all.Reads as places-put-all-reads
+use Rattle.sps.proofs.checked as checked
+use Rattle.sps.proofs.checked.Reads as checked-reads
 use Rattle.sps.proofs.sps_check as sps-check
 use Rattle.sps.proofs.sps_check.Reads as sps-check-reads
 use Rattle.sps.proofs.sps_counts as sps-counts
@@ -48,11 +57,14 @@ places-put-one κs a v v′ w w′ p p′ = (refl, both refl (both refl (both (p
 pub places-put-all-one : One places-put-all.ended places-put-all-reads.Post
 places-put-all-one κs a v v′ w w′ p p′ = (refl, both refl (both (p ∙ sym p′) refl))
 
+pub checked-one : One checked.ended checked-reads.Post
+checked-one κs a v v′ w w′ p p′ = (set-one v v′ (p ∙ sym p′), refl)
+
 pub sps-check-one : One sps-check.ended sps-check-reads.Post
 sps-check-one κs a v v′ w w′ p p′ = (p ∙ sym p′, refl)
 
 pub sps-counts-one : One sps-counts.ended sps-counts-reads.Post
-sps-counts-one κs a v v′ w w′ p p′ = (p .0 ∙ sym (p′ .0), both refl (both refl (both refl (both (p .1 ∙ sym (p′ .1)) refl))))
+sps-counts-one κs a v v′ w w′ p p′ = (p .0 ∙ sym (p′ .0), both refl (both refl (both refl (both refl (both (p .1 ∙ sym (p′ .1)) refl)))))
 
 pub sps-trace-one : One sps-trace.ended sps-trace-reads.Post
 sps-trace-one κs a v v′ w w′ p p′ = (p ∙ sym p′, refl)
@@ -60,10 +72,16 @@ sps-trace-one κs a v v′ w w′ p p′ = (p ∙ sym p′, refl)
 pub sps-channel-one : One sps-channel.ended sps-channel-reads.Post
 sps-channel-one κs a v v′ w w′ p p′ = (p ∙ sym p′, refl)
 
+-- the spread table, by the medium that is chosen
+told-one : (d : Choice) (T : Medium → Table) (o q : List ℕ) (a a′ : ℕ) (l l′ m m′ : List ℕ) → SpreadTold d T o q a l m → SpreadTold d T o q a′ l′ m′
+    → (a ≡ a′) × ((l ≡ l′) × (m ≡ m′))
+told-one (on M) T o q a a′ l l′ m m′ (v, (e, p)) (v′, (e′, p′)) =
+    (e ∙ ap hostNumber (p .answer ∙ sym (p′ .answer)) ∙ sym e′, (p .lines ∙ sym (p′ .lines), p .components ∙ sym (p′ .components)))
+told-one none T o q a a′ l l′ m m′ (e, (y, z)) (e′, (y′, z′)) = (e ∙ sym e′, (y ∙ sym y′, z ∙ sym z′))
+
 pub sps-spread-one : One sps-spread.ended sps-spread-reads.Post
 sps-spread-one κs a v v′ w w′ p p′ =
-    let q = p .1 .1 in
-    let q′ = p′ .1 .1 in (
-      p .1 .0 ∙ ap hostNumber (q .answer ∙ sym (q′ .answer)) ∙ sym (p′ .1 .0),
-      both refl (both refl (both refl (both refl (both refl (both (q .lines ∙ sym (q′ .lines)) (both (q .components ∙ sym (q′ .components)) refl)))))),
+    let t = told-one (choice (a .0)) _ _ _ v v′ _ _ _ _ p p′ in (
+      t .0,
+      both refl (both refl (both refl (both refl (both refl (both refl (both (t .1 .0) (both (t .1 .1) refl))))))),
     )

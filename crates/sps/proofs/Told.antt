@@ -1,13 +1,15 @@
 -- The number of an answer tells it, where the answer is that of the definitions.
---   setOf, questionOf, spreadOf = the code's answer of a paper's
-use Prim.Native.Nat.{ℕ, _+_, _*_, _/_, _%_, _^_, _≤_, _<_}
+--   by-choice, no-choice = what a call answers by the medium that the code has chosen
+use Prim.Native.Nat.{ℕ}
 use native.Mathlib.Omega.{arith}
-use mathlib.Core.Path.{_≡_, refl, sym, ap, subst, _∙_}
+use mathlib.Core.Path.{_≡_, refl, sym, ap, _∙_}
 use mathlib.Core.Logic.{⊎-elim}
 use mathlib.Core.List.{List}
-use Rattle.rules.specs.Plan.{Refusal, №, Verdict, fine, refused, run}
+use Rattle.rules.specs.Plan.{№, Verdict, fine, refused, run}
 use Rattle.rules.specs.Sheet.{Sheet}
-use Rattle.rules.specs.Check.{Answer, accepted, refusal, trace, channel, highest, noTrace, verdict, answer, points, relations, allTraces, check}
+use Rattle.rules.specs.Check.{Answer, accepted, refusal, highest, verdict, answer, points, relations, allTraces, check}
+use Rattle.rules.specs.Medium.{Medium}
+use Rattle.rules.specs.Calls.{Choice as PaperChoice, on, none, chosen}
 use Rattle.rules.specs.Lookup.{found, foundBack, lookup, wayBack}
 use Rattle.rules.specs.Spread.{highestOf, spreadVerdict, spread}
 use Rattle.rules.specs.Hosts.{packed, hostNumber}
@@ -15,6 +17,10 @@ use Rattle.rules.specs.Listed.{Listed}
 use Rattle.rules.proofs.Traces.{found-view, back-view}
 use Rattle.rules.proofs.ListedSizes.{listed-within}
 use Rattle.rules.proofs.Hosts.{Sized, refusal-parts}
+use Rattle.lines.specs.Reading.{mediumOf, chosenBy}
+use Rattle.lines.specs.declared.Reading.{Reading}
+use Rattle.lines.specs.declared.Choice.{Choice}
+use Rattle.lines.specs.declared.Choice.the-variants.{On, None}
 use Rattle.sets.specs.declared.Answer.{Answer as SetAnswer}
 use Rattle.sets.specs.declared.Answer.the-variants.{Accepted, Refused as SetRefused}
 use Rattle.sets.specs.Paper.{paper as setPaper}
@@ -25,7 +31,7 @@ use Rattle.traces.specs.declared.Spread.the-variants.{Highest, Refused as Denie
 use Rattle.traces.specs.Paper.{paper as questionPaper, paperSpread}
 use Rattle.sps.specs.Said.{RefusedAs, TellsSet, Tells, TellsSpread}
 
-refused-as : (i f l c : ℕ) → Listed (№ i f l c) → (n : ℕ) → n ≡ packed (№ i f l c) → RefusedAs n i f l c
+pub refused-as : (i f l c : ℕ) → Listed (№ i f l c) → (n : ℕ) → n ≡ packed (№ i f l c) → RefusedAs n i f l c
 unfolding packed
 refused-as i f l c w n e =
     let o = listed-within i f l c w .0 .0 in
@@ -50,6 +56,20 @@ pub tells-spread : (v : Spread) → Sized (paperSpread v) → (n : ℕ) → n �
 unfolding hostNumber
 tells-spread (Highest h) z n e = (omega arith, e)
 tells-spread (Denied i f l c) z n e = refused-as i f l c z n e
+
+-- the medium that the code has chosen
+module _ (d : Choice) (e : PaperChoice) (p : chosenBy d ≡ e) where
+  pub chose-on : (how : Reading) → d ≡ On how → on (mediumOf how) ≡ e
+  chose-on how q = sym (ap chosenBy q) ∙ p
+
+  pub chose-none : d ≡ None → none ≡ e
+  chose-none q = sym (ap chosenBy q) ∙ p
+
+  pub by-choice : (how : Reading) → d ≡ On how → (A : Medium → Answer) (v : Answer) → v ≡ A (mediumOf how) → v ≡ chosen e A
+  by-choice how q A v y = y ∙ ap (λ (u : PaperChoice). chosen u A) (chose-on how q)
+
+  pub no-choice : d ≡ None → (A : Medium → Answer) → refusal (№ 20 0 0 0) ≡ chosen e A
+  no-choice q A = ap (λ (u : PaperChoice). chosen u A) (chose-none q)
 
 -- what the definitions answer is an answer of the code
 pub set-answer : (r s x : Sheet) → (v : SetAnswer) × (setPaper v ≡ check r s x)

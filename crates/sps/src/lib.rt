@@ -1,19 +1,21 @@
 // The calls for C hosts, which `include/sps.h` declares: the check, both lookups and the spread table, on numbers and byte slices.
-// Each carries the answer of the proved call over as one 64-bit number: a refusal from 2^40 on, any other answer below.
+// Each carries the answer of the proved call over as one 64-bit number: a refusal from 2^40 on, any other answer below. The number of the
+// medium comes first, and is looked at before all else.
 ghost use mathlib.Core.Path.{_≡_};
 ghost use Rattle.rules.specs.Plan.{№};
-ghost use Rattle.rules.specs.Disc.{file};
-ghost use Rattle.rules.specs.Check.{check as checkOf};
-ghost use Rattle.rules.specs.Lookup.{lookup, wayBack};
+ghost use Rattle.rules.specs.Layout.{sps93};
+ghost use Rattle.rules.specs.Medium.{sheet};
+ghost use Rattle.rules.specs.Calls.{choice, checkIn, lookupIn, wayBackIn};
 ghost use Rattle.rules.specs.Hosts.{packed, hostNumber};
-ghost use Rattle.lines.specs.Reading.{onDisc};
 ghost use Rattle.sets.specs.Paper.{paper as setPaper};
 ghost use Rattle.traces.specs.Paper.{paper as questionPaper, paperSpread};
-ghost use Rattle.traces.specs.Calls.{tableOn};
+ghost use Rattle.traces.specs.Calls.{tableOf};
 ghost use Rattle.sps.specs.Counts.{counted};
 ghost use Rattle.sps.specs.Table.{SpreadTold};
+use lines::Choice;
 use sets::Answer as SetAnswer;
 use traces::Answer;
+use traces::Question;
 use traces::Spread;
 
 mod places;
@@ -67,23 +69,33 @@ fn spread_number(a: Spread) -> u64
     }
 }
 
+// The set check of the medium's number.
+fn checked(medium: u64, r: &[u8], s: &[u8], x: &[u8]) -> SetAnswer
+    ensures answer { λ a. ⌜ setPaper a ≡ checkIn (choice medium) (now (r .entry)) (now (s .entry)) (now (x .entry)) ⌝ }
+{
+    match lines::chosen(medium) {
+        Choice::On(how) => sets::check(how, r, s, x),
+        Choice::None => SetAnswer::Refused(20, 0, 0, 0),
+    }
+}
+
 // Checks a set: its traces.
 #[no_mangle]
-pub extern "C" fn sps_check(r: &[u8], s: &[u8], x: &[u8]) -> u64
-    ensures answer { λ n. ⌜ n ≡ hostNumber (checkOf (file (now (r .entry))) (file (now (s .entry))) (file (now (x .entry)))) ⌝ }
+pub extern "C" fn sps_check(medium: u64, r: &[u8], s: &[u8], x: &[u8]) -> u64
+    ensures answer { λ n. ⌜ n ≡ hostNumber (checkIn (choice medium) (now (r .entry)) (now (s .entry)) (now (x .entry))) ⌝ }
 {
-    set_number(sets::check(r, s, x))
+    set_number(checked(medium, r, s, x))
 }
 
 // The same, and the receivers, shots, relation lines and traces of an accepted set in counts: places of eight bytes, low byte first, of
 // which those are written that counts has whole. A refusal writes nothing.
 #[no_mangle]
-pub extern "C" fn sps_counts(r: &[u8], s: &[u8], x: &[u8], counts: &mut [u8]) -> u64
-    ensures answer { λ n. ⌜ n ≡ hostNumber (checkOf (file (now (r .entry))) (file (now (s .entry))) (file (now (x .entry)))) ⌝ }
+pub extern "C" fn sps_counts(medium: u64, r: &[u8], s: &[u8], x: &[u8], counts: &mut [u8]) -> u64
+    ensures answer { λ n. ⌜ n ≡ hostNumber (checkIn (choice medium) (now (r .entry)) (now (s .entry)) (now (x .entry))) ⌝ }
     ensures written { λ _. ⌜ now (counts .exit)
-        ≡ counted (checkOf (file (now (r .entry))) (file (now (s .entry))) (file (now (x .entry)))) (now (counts .entry)) ⌝ }
+        ≡ counted (checkIn (choice medium) (now (r .entry)) (now (s .entry)) (now (x .entry))) (now (counts .entry)) ⌝ }
 {
-    let a = sets::check(r, s, x);
+    let a = checked(medium, r, s, x);
     put_counts(a, counts);
     set_number(a)
 }
@@ -91,6 +103,7 @@ pub extern "C" fn sps_counts(r: &[u8], s: &[u8], x: &[u8], counts: &mut [u8]) ->
 // The lookup: R line * 16 + component, 0 for no trace.
 #[no_mangle]
 pub extern "C" fn sps_trace(
+    medium: u64,
     r: &[u8],
     s: &[u8],
     x: &[u8],
@@ -98,15 +111,21 @@ pub extern "C" fn sps_trace(
     record: u64,
     channel: u64,
 ) -> u64
-    ensures answer { λ a. ⌜ a ≡ hostNumber (lookup (file (now (r .entry))) (file (now (s .entry))) (file (now (x .entry)))
-        (now (tape .entry)) «record» channel) ⌝ }
+    ensures answer { λ a. ⌜ a
+        ≡ hostNumber (lookupIn (choice medium) (now (r .entry)) (now (s .entry)) (now (x .entry)) (now (tape .entry)) «record» channel) ⌝ }
 {
-    question_number(traces::trace(r, s, x, tape, record, channel))
+    match lines::chosen(medium) {
+        Choice::On(how) => {
+            question_number(traces::trace(Question { how, record }, r, s, x, tape, channel))
+        }
+        Choice::None => pack(20, 0, 0, 0),
+    }
 }
 
 // The way back: the channel, 0 for no trace.
 #[no_mangle]
 pub extern "C" fn sps_channel(
+    medium: u64,
     r: &[u8],
     s: &[u8],
     x: &[u8],
@@ -115,15 +134,22 @@ pub extern "C" fn sps_channel(
     r_line: u64,
     component: u64,
 ) -> u64
-    ensures answer { λ a. ⌜ a ≡ hostNumber (wayBack (file (now (r .entry))) (file (now (s .entry))) (file (now (x .entry)))
-        (now (tape .entry)) «record» «r_line» component) ⌝ }
+    ensures answer { λ a. ⌜ a
+        ≡ hostNumber (wayBackIn (choice medium) (now (r .entry)) (now (s .entry)) (now (x .entry)) (now (tape .entry)) «record» «r_line» component) ⌝ }
 {
-    question_number(traces::channel(r, s, x, tape, record, r_line, component))
+    match lines::chosen(medium) {
+        Choice::On(how) => {
+            let q = Question { how, record };
+            question_number(traces::channel(q, r, s, x, tape, r_line, component))
+        }
+        Choice::None => pack(20, 0, 0, 0),
+    }
 }
 
 // The spread table: the highest channel; the lines are numbers of two bytes, low byte first.
 #[no_mangle]
 pub extern "C" fn sps_spread(
+    medium: u64,
     r: &[u8],
     s: &[u8],
     x: &[u8],
@@ -132,8 +158,15 @@ pub extern "C" fn sps_spread(
     lines: &mut [u8],
     components: &mut [u8],
 ) -> u64
-    ensures table { λ a. ⌜ SpreadTold (tableOn onDisc (now (r .entry)) (now (s .entry)) (now (x .entry)) (now (tape .entry)) «record»
-        (now (lines .entry)) (now (components .entry))) a (now (lines .exit)) (now (components .exit)) ⌝ }
+    ensures table { λ a. ⌜ SpreadTold (choice medium) (λ M. tableOf (sheet M sps93) (now (r .entry)) (now (s .entry)) (now (x .entry))
+        (now (tape .entry)) «record» (now (lines .entry)) (now (components .entry)))
+        (now (lines .entry)) (now (components .entry)) a (now (lines .exit)) (now (components .exit)) ⌝ }
 {
-    spread_number(traces::spread_bytes(r, s, x, tape, record, lines, components))
+    match lines::chosen(medium) {
+        Choice::On(how) => {
+            let q = Question { how, record };
+            spread_number(traces::spread_bytes(q, r, s, x, tape, lines, components))
+        }
+        Choice::None => pack(20, 0, 0, 0),
+    }
 }

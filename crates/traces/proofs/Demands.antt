@@ -1,5 +1,4 @@
--- Demand 3 of the calls `trace`, `channel`, `spread_table` and `spread_bytes`, and of their twins `trace_on`, `channel_on`, `spread_on` and
--- `bytes_on`, from their contracts. The twins read the files by `how`; the others read files on disc.
+-- Demand 3 of the calls `trace`, `channel`, `spread_table` and `spread_bytes`, from their contracts, whatever the medium.
 --   Record                    = which record of which set is asked for
 --   traced, came-back         = what one answer says
 --   LookedUp, AskedBack       = a lookup, and the way back, of a record has that answer
@@ -21,13 +20,12 @@ use Rattle.rules.specs.Spread.{lineOf, componentOf}
 use Rattle.rules.specs.Hosts.{numbersOf}
 use Rattle.rules.specs.Meets.{Meets}
 use Rattle.rules.proofs.Demand3.{Askable}
-use Rattle.rules.proofs.Disc.{askable}
-use Rattle.lines.specs.Reading.{onDisc, sheetOf}
+use Rattle.rules.proofs.Medium.{askable}
+use Rattle.lines.specs.Reading.{mediumOf, sheetOf}
 use Rattle.lines.specs.declared.Reading.{Reading}
-use Rattle.lines.proofs.Sheets.{sheet-is}
+use Rattle.lines.proofs.Sheets.{lawful}
 use Rattle.traces.specs.declared.Answer.{Answer}
 use Rattle.traces.specs.declared.Answer.the-variants.{Trace, Channel}
-use Rattle.traces.specs.declared.Spread.{Spread}
 use Rattle.traces.specs.declared.Spread.the-variants.{Highest}
 use Rattle.traces.specs.Paper.{paper}
 use Rattle.traces.specs.Calls.{lookupOn, wayBackOn}
@@ -35,20 +33,12 @@ use Rattle.traces.specs.Said.{Traced, Returned, Tabled}
 use Rattle.traces.proofs.Told as told
 use Rattle.traces.proofs.trace as trace
 use Rattle.traces.proofs.trace.Reads as trace-reads
-use Rattle.traces.proofs.trace_on as trace-on
-use Rattle.traces.proofs.trace_on.Reads as trace-on-reads
 use Rattle.traces.proofs.channel as channel
 use Rattle.traces.proofs.channel.Reads as channel-reads
-use Rattle.traces.proofs.channel_on as channel-on
-use Rattle.traces.proofs.channel_on.Reads as channel-on-reads
 use Rattle.traces.proofs.spread_table as spread-table
 use Rattle.traces.proofs.spread_table.Reads as spread-table-reads
-use Rattle.traces.proofs.spread_on as spread-on
-use Rattle.traces.proofs.spread_on.Reads as spread-on-reads
 use Rattle.traces.proofs.spread_bytes as spread-bytes
 use Rattle.traces.proofs.spread_bytes.Reads as spread-bytes-reads
-use Rattle.traces.proofs.bytes_on as bytes-on
-use Rattle.traces.proofs.bytes_on.Reads as bytes-on-reads
 
 -- which record of which set is asked for, and how its files are read
 pub record Record : Type 0 where
@@ -63,37 +53,24 @@ abbrev asked : Reading → List ℕ → List ℕ → List ℕ → List ℕ → �
 asked how r s x t n = record { how = how; receivers = r; shots = s; relations = x; tape = t; number = n }
 
 asks : (how : Reading) (r s x : List ℕ) → Meets (sheetOf how r) (sheetOf how s) (sheetOf how x) → Askable (sheetOf how x)
-asks how r s x ok = rw (sheet-is how x) (askable (sheetOf how r) (sheetOf how s) x (rw (sheet-is how x) at ok))
+unfolding sheetOf
+asks how r s x ok = askable (mediumOf how) (lawful how) (sheetOf how r) (sheetOf how s) x ok
 
 -- "In an accepted set each tape, record and channel covered by a relation line leads to one receiver line and one component, those of the
 -- line's arithmetic. .. what is not covered is answered "no trace"."
-pub traced : (κs : Lfts 4) (a : ArgsD trace.signature κs) (v : ResD trace.signature κs) (w : AtExit trace.ended κs) → trace-reads.Post κs a v w
-    → Traced (sheetOf onDisc (now (a .0))) (sheetOf onDisc (now (a .1 .0))) (sheetOf onDisc (now (a .1 .1 .0)))
-    (now (a .1 .1 .1 .0)) (a .1 .1 .1 .1 .0) (a .1 .1 .1 .1 .1 .0) v
-traced κs a v w p =
-    told.traced _ _ _ (asks onDisc (now (a .0)) (now (a .1 .0)) (now (a .1 .1 .0))) (now (a .1 .1 .1 .0)) (a .1 .1 .1 .1 .0) (a .1 .1 .1 .1 .1 .0) v p
-
-pub traced-on : (κs : Lfts 4) (a : ArgsD trace-on.signature κs) (v : ResD trace-on.signature κs) (w : AtExit trace-on.ended κs)
-    → trace-on-reads.Post κs a v w
+pub traced : (κs : Lfts 4) (a : ArgsD trace.signature κs) (v : ResD trace.signature κs) (w : AtExit trace.ended κs)
+    → trace-reads.Post κs a v w
     → Traced (sheetOf (a .0 .how) (now (a .1 .0))) (sheetOf (a .0 .how) (now (a .1 .1 .0))) (sheetOf (a .0 .how) (now (a .1 .1 .1 .0)))
     (now (a .1 .1 .1 .1 .0)) (a .0 .«record») (a .1 .1 .1 .1 .1 .0) v
-traced-on κs a v w p =
+traced κs a v w p =
     told.traced _ _ _ (asks (a .0 .how) (now (a .1 .0)) (now (a .1 .1 .0)) (now (a .1 .1 .1 .0))) (now (a .1 .1 .1 .1 .0)) (a .0 .«record»)
     (a .1 .1 .1 .1 .1 .0) v p
 
 pub came-back : (κs : Lfts 4) (a : ArgsD channel.signature κs) (v : ResD channel.signature κs) (w : AtExit channel.ended κs)
     → channel-reads.Post κs a v w
-    → Returned (sheetOf onDisc (now (a .0))) (sheetOf onDisc (now (a .1 .0))) (sheetOf onDisc (now (a .1 .1 .0)))
-    (now (a .1 .1 .1 .0)) (a .1 .1 .1 .1 .0) (a .1 .1 .1 .1 .1 .0) (a .1 .1 .1 .1 .1 .1 .0) v
-came-back κs a v w p =
-    told.came-back _ _ _ (asks onDisc (now (a .0)) (now (a .1 .0)) (now (a .1 .1 .0))) (now (a .1 .1 .1 .0)) (a .1 .1 .1 .1 .0)
-    (a .1 .1 .1 .1 .1 .0) (a .1 .1 .1 .1 .1 .1 .0) v p
-
-pub came-back-on : (κs : Lfts 4) (a : ArgsD channel-on.signature κs) (v : ResD channel-on.signature κs) (w : AtExit channel-on.ended κs)
-    → channel-on-reads.Post κs a v w
     → Returned (sheetOf (a .0 .how) (now (a .1 .0))) (sheetOf (a .0 .how) (now (a .1 .1 .0))) (sheetOf (a .0 .how) (now (a .1 .1 .1 .0)))
     (now (a .1 .1 .1 .1 .0)) (a .0 .«record») (a .1 .1 .1 .1 .1 .0) (a .1 .1 .1 .1 .1 .1 .0) v
-came-back-on κs a v w p =
+came-back κs a v w p =
     told.came-back _ _ _ (asks (a .0 .how) (now (a .1 .0)) (now (a .1 .1 .0)) (now (a .1 .1 .1 .0))) (now (a .1 .1 .1 .1 .0)) (a .0 .«record»)
     (a .1 .1 .1 .1 .1 .0) (a .1 .1 .1 .1 .1 .1 .0) v p
 
@@ -103,9 +80,6 @@ lookupOf q c = lookupOn (q .how) (q .receivers) (q .shots) (q .relations) (q .ta
 
 pub data LookedUp (q : Record) (c : ℕ) (v : Answer) : Type 0 where
   by-trace : (κs : Lfts 4) (a : ArgsD trace.signature κs) (w : AtExit trace.ended κs) → trace-reads.Post κs a v w
-      → asked onDisc (now (a .0)) (now (a .1 .0)) (now (a .1 .1 .0)) (now (a .1 .1 .1 .0)) (a .1 .1 .1 .1 .0) ≡ q → a .1 .1 .1 .1 .1 .0 ≡ c
-      → LookedUp q c v
-  by-trace-on : (κs : Lfts 4) (a : ArgsD trace-on.signature κs) (w : AtExit trace-on.ended κs) → trace-on-reads.Post κs a v w
       → asked (a .0 .how) (now (a .1 .0)) (now (a .1 .1 .0)) (now (a .1 .1 .1 .0)) (now (a .1 .1 .1 .1 .0)) (a .0 .«record») ≡ q
       → a .1 .1 .1 .1 .1 .0 ≡ c → LookedUp q c v
 
@@ -114,7 +88,6 @@ moved o q i c v p e f = subst (λ (n : ℕ). paper v ≡ lookupOf q n) f (subst 
 
 looked-up : (q : Record) (c : ℕ) (v : Answer) → LookedUp q c v → paper v ≡ lookupOf q c
 looked-up q c v (by-trace κs a w p e f) = moved _ q _ c v p e f
-looked-up q c v (by-trace-on κs a w p e f) = moved _ q _ c v p e f
 
 -- the way back from R line j and component m of a record has that answer
 abbrev backOf : Record → ℕ → ℕ → PaperAnswer
@@ -122,9 +95,6 @@ backOf q j m = wayBackOn (q .how) (q .receivers) (q .shots) (q .relations) (q .t
 
 pub data AskedBack (q : Record) (j m : ℕ) (v : Answer) : Type 0 where
   by-channel : (κs : Lfts 4) (a : ArgsD channel.signature κs) (w : AtExit channel.ended κs) → channel-reads.Post κs a v w
-      → asked onDisc (now (a .0)) (now (a .1 .0)) (now (a .1 .1 .0)) (now (a .1 .1 .1 .0)) (a .1 .1 .1 .1 .0) ≡ q → a .1 .1 .1 .1 .1 .0 ≡ j
-      → a .1 .1 .1 .1 .1 .1 .0 ≡ m → AskedBack q j m v
-  by-channel-on : (κs : Lfts 4) (a : ArgsD channel-on.signature κs) (w : AtExit channel-on.ended κs) → channel-on-reads.Post κs a v w
       → asked (a .0 .how) (now (a .1 .0)) (now (a .1 .1 .0)) (now (a .1 .1 .1 .0)) (now (a .1 .1 .1 .1 .0)) (a .0 .«record») ≡ q
       → a .1 .1 .1 .1 .1 .0 ≡ j → a .1 .1 .1 .1 .1 .1 .0 ≡ m → AskedBack q j m v
 
@@ -134,7 +104,6 @@ moved-back o q i j l m v p e f g =
 
 asked-back : (q : Record) (j m : ℕ) (v : Answer) → AskedBack q j m v → paper v ≡ backOf q j m
 asked-back q j m v (by-channel κs a w p e f g) = moved-back _ q _ j _ m v p e f g
-asked-back q j m v (by-channel-on κs a w p e f g) = moved-back _ q _ j _ m v p e f g
 
 module _ (q : Record) where
   abbrev R : Sheet
@@ -163,40 +132,23 @@ module _ (q : Record) where
 -- returned. Later places stay. An absent record returns 0 and writes nothing. All refusals write nothing."
 pub tabled : (κs : Lfts 6) (a : ArgsD spread-table.signature κs) (v : ResD spread-table.signature κs) (w : AtExit spread-table.ended κs)
     → spread-table-reads.Post κs a v w
-    → Tabled (λ l. l) (sheetOf onDisc (now (a .0))) (sheetOf onDisc (now (a .1 .0))) (sheetOf onDisc (now (a .1 .1 .0))) (now (a .1 .1 .1 .0))
-    (a .1 .1 .1 .1 .0) (now (a .1 .1 .1 .1 .1 .0)) (now (a .1 .1 .1 .1 .1 .1 .0)) v (now (w .1 .1 .1 .1 .1 .0)) (now (w .1 .1 .1 .1 .1 .1 .0))
-tabled κs a v w p = told.numbers-tabled _ v _ _ p
-
-pub tabled-on : (κs : Lfts 6) (a : ArgsD spread-on.signature κs) (v : ResD spread-on.signature κs) (w : AtExit spread-on.ended κs)
-    → spread-on-reads.Post κs a v w
     → Tabled (λ l. l) (sheetOf (a .0 .how) (now (a .1 .0))) (sheetOf (a .0 .how) (now (a .1 .1 .0))) (sheetOf (a .0 .how) (now (a .1 .1 .1 .0)))
     (now (a .1 .1 .1 .1 .0)) (a .0 .«record») (now (a .1 .1 .1 .1 .1 .0)) (now (a .1 .1 .1 .1 .1 .1 .0)) v
     (now (w .1 .1 .1 .1 .1 .0)) (now (w .1 .1 .1 .1 .1 .1 .0))
-tabled-on κs a v w p = told.numbers-tabled _ v _ _ p
+tabled κs a v w p = told.numbers-tabled _ v _ _ p
 
 pub bytes-tabled : (κs : Lfts 6) (a : ArgsD spread-bytes.signature κs) (v : ResD spread-bytes.signature κs) (w : AtExit spread-bytes.ended κs)
     → spread-bytes-reads.Post κs a v w
-    → Tabled numbersOf (sheetOf onDisc (now (a .0))) (sheetOf onDisc (now (a .1 .0))) (sheetOf onDisc (now (a .1 .1 .0))) (now (a .1 .1 .1 .0))
-    (a .1 .1 .1 .1 .0) (now (a .1 .1 .1 .1 .1 .0)) (now (a .1 .1 .1 .1 .1 .1 .0)) v (now (w .1 .1 .1 .1 .1 .0)) (now (w .1 .1 .1 .1 .1 .1 .0))
-bytes-tabled κs a v w p = told.bytes-tabled _ v _ _ p
-
-pub bytes-tabled-on : (κs : Lfts 6) (a : ArgsD bytes-on.signature κs) (v : ResD bytes-on.signature κs) (w : AtExit bytes-on.ended κs)
-    → bytes-on-reads.Post κs a v w
     → Tabled numbersOf (sheetOf (a .0 .how) (now (a .1 .0))) (sheetOf (a .0 .how) (now (a .1 .1 .0))) (sheetOf (a .0 .how) (now (a .1 .1 .1 .0)))
     (now (a .1 .1 .1 .1 .0)) (a .0 .«record») (now (a .1 .1 .1 .1 .1 .0)) (now (a .1 .1 .1 .1 .1 .1 .0)) v
     (now (w .1 .1 .1 .1 .1 .0)) (now (w .1 .1 .1 .1 .1 .1 .0))
-bytes-tabled-on κs a v w p = told.bytes-tabled _ v _ _ p
+bytes-tabled κs a v w p = told.bytes-tabled _ v _ _ p
 
 -- "bytes at its end too few for a number are no place and stay"
 pub odd-stays-put : (κs : Lfts 6) (a : ArgsD spread-bytes.signature κs) (v : ResD spread-bytes.signature κs) (w : AtExit spread-bytes.ended κs)
     → spread-bytes-reads.Post κs a v w → (c : ℕ) → 2 * (length (now (a .1 .1 .1 .1 .1 .0)) / 2) ≤ c
     → getD (now (w .1 .1 .1 .1 .1 .0)) c 0 ≡ getD (now (a .1 .1 .1 .1 .1 .0)) c 0
 odd-stays-put κs a v w p = told.odd-byte _ _ _ _ p
-
-pub odd-stays-put-on : (κs : Lfts 6) (a : ArgsD bytes-on.signature κs) (v : ResD bytes-on.signature κs) (w : AtExit bytes-on.ended κs)
-    → bytes-on-reads.Post κs a v w → (c : ℕ) → 2 * (length (now (a .1 .1 .1 .1 .1 .0)) / 2) ≤ c
-    → getD (now (w .1 .1 .1 .1 .1 .0)) c 0 ≡ getD (now (a .1 .1 .1 .1 .1 .0)) c 0
-odd-stays-put-on κs a v w p = told.odd-byte _ _ _ _ p
 
 -- the table and the lookup agree: where the one says h, the place of each channel up to h has the line and component that the other answers
 pub agrees : (read : List ℕ → List ℕ) (q : Record) (d e d′ e′ : List ℕ) (h : ℕ)

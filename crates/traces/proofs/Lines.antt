@@ -22,7 +22,7 @@ use Rattle.lines.specs.Reading.{sheetOf}
 use Rattle.lines.specs.declared.Reading.{Reading}
 use Rattle.lines.proofs.Sheets.{layout-is}
 use Rattle.lines.proofs.Tests.{least-same}
-use Rattle.form.specs.Known.{Known}
+use Rattle.form.specs.Known.{owned, Known}
 use Rattle.keys.specs.Held.{RelationLine}
 use Rattle.keys.specs.Compare.{sameKey}
 use Rattle.keys.specs.Keys.{receiverKey}
@@ -71,12 +71,12 @@ found-line x t n p k e g =
     ⊎-elim (λ w. ((g, rw e (data-is x _ .1 (w .1 .0 .0))), rw e (w .1 .1))) (λ w. let z = w .0 in absurd (omega arith)) (search-is x t n p)
 
 -- a key as the code has it
-pub key-read : (how : Reading) (x : List ℕ) (k n : ℕ) (y : Key) → y ≡ receiverKey sps93 (sheetOf how x .row k) n
-    → y ≡ receiverKey (sheetOf how x .layout) (sheetOf how x .row k) n
+pub key-read : (how : Reading) (x : List ℕ) (k n : ℕ) (y : Key) → y ≡ receiverKey sps93 (owned (sheetOf how x) k) n
+    → y ≡ receiverKey (sheetOf how x .layout) (owned (sheetOf how x) k) n
 key-read how x k n y e = e ∙ (rw (layout-is how x))
 
-module _ (r x : Sheet) (wr : Known 1 r) (wx : Known 3 x) (k : ℕ) (h : RelationLine x k) (n : ℕ) (few : n < 4294967296) (y : Key)
-    (e : y ≡ receiverKey (x .layout) (x .row k) n) where
+module _ (r x : Sheet) (wr : Known 1 r) (wx : Known 3 x) (alike : r .rank ≡ x .rank) (k : ℕ) (h : RelationLine x k) (n : ℕ) (few : n < 4294967296) (y : Key)
+    (e : y ≡ receiverKey (x .layout) (owned x k) n) where
   not-x : 1 ≡ fileX → ⊥
   not-x z = omega arith
 
@@ -84,7 +84,7 @@ module _ (r x : Sheet) (wr : Known 1 r) (wx : Known 3 x) (k : ℕ) (h : Relation
   unfolding isPointAt
   key-holds j g =
       holds-point Receivers r y j (isPoint r j) _ (takes-receiver r j g)
-      (λ p. ap (sameKey (keyAt Receivers r j)) e ∙ receiver-is 1 r wr not-x j g p x wx k (h .0) (h .1) n few)
+      (λ p. ap (sameKey (keyAt Receivers r j)) e ∙ receiver-is 1 r wr not-x j g p x wx alike k (h .0) (h .1) n few)
 
   pub line-of-key : least (r .count) (holdsKey Receivers r y) ≡ receiverLine r (reachAt x k) n
   unfolding receiverLine lineOfPoint

@@ -19,20 +19,12 @@ use Rattle.traces.proofs.forth.receiver_line as forth-receiver-line
 use Rattle.traces.proofs.forth.receiver_line.Reads as forth-receiver-line-reads
 use Rattle.traces.proofs.back.reaches as back-reaches
 use Rattle.traces.proofs.back.reaches.Reads as back-reaches-reads
-use Rattle.traces.proofs.trace_on as trace-on
-use Rattle.traces.proofs.trace_on.Reads as trace-on-reads
 use Rattle.traces.proofs.trace as trace
 use Rattle.traces.proofs.trace.Reads as trace-reads
-use Rattle.traces.proofs.channel_on as channel-on
-use Rattle.traces.proofs.channel_on.Reads as channel-on-reads
 use Rattle.traces.proofs.channel as channel
 use Rattle.traces.proofs.channel.Reads as channel-reads
-use Rattle.traces.proofs.spread_on as spread-on
-use Rattle.traces.proofs.spread_on.Reads as spread-on-reads
 use Rattle.traces.proofs.spread_table as spread-table
 use Rattle.traces.proofs.spread_table.Reads as spread-table-reads
-use Rattle.traces.proofs.bytes_on as bytes-on
-use Rattle.traces.proofs.bytes_on.Reads as bytes-on-reads
 use Rattle.traces.proofs.spread_bytes as spread-bytes
 use Rattle.traces.proofs.spread_bytes.Reads as spread-bytes-reads
 
@@ -72,14 +64,8 @@ forth-receiver-line-one κs a v v′ w w′ = alike
 pub back-reaches-one : One back-reaches.ended back-reaches-reads.Post
 back-reaches-one κs a v v′ w w′ = alike
 
-pub trace-on-one : One trace-on.ended trace-on-reads.Post
-trace-on-one κs a v v′ w w′ p p′ = (answer-one v v′ (p ∙ sym p′), refl)
-
 pub trace-one : One trace.ended trace-reads.Post
 trace-one κs a v v′ w w′ p p′ = (answer-one v v′ (p ∙ sym p′), refl)
-
-pub channel-on-one : One channel-on.ended channel-on-reads.Post
-channel-on-one κs a v v′ w w′ p p′ = (answer-one v v′ (p ∙ sym p′), refl)
 
 pub channel-one : One channel.ended channel-reads.Post
 channel-one κs a v v′ w w′ p p′ = (answer-one v v′ (p ∙ sym p′), refl)
@@ -90,20 +76,8 @@ spread-one (Highest h) (Denied n′ f′ l′ c′) e = cc
 spread-one (Denied n f l c) (Highest h′) e = cc
 spread-one (Denied n f l c) (Denied n′ f′ l′ c′) e = cc
 
-pub spread-on-one : One spread-on.ended spread-on-reads.Post
-spread-on-one κs a v v′ w w′ p p′ = (
-  spread-one v v′ (p .answer ∙ sym (p′ .answer)),
-  both refl (both refl (both refl (both refl (both refl (both (p .lines ∙ sym (p′ .lines)) (both (p .components ∙ sym (p′ .components)) refl)))))),
-)
-
 pub spread-table-one : One spread-table.ended spread-table-reads.Post
 spread-table-one κs a v v′ w w′ p p′ = (
-  spread-one v v′ (p .answer ∙ sym (p′ .answer)),
-  both refl (both refl (both refl (both refl (both refl (both (p .lines ∙ sym (p′ .lines)) (both (p .components ∙ sym (p′ .components)) refl)))))),
-)
-
-pub bytes-on-one : One bytes-on.ended bytes-on-reads.Post
-bytes-on-one κs a v v′ w w′ p p′ = (
   spread-one v v′ (p .answer ∙ sym (p′ .answer)),
   both refl (both refl (both refl (both refl (both refl (both (p .lines ∙ sym (p′ .lines)) (both (p .components ∙ sym (p′ .components)) refl)))))),
 )

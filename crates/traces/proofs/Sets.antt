@@ -2,7 +2,6 @@
 use Prim.Native.Nat.{ℕ, _+_, _≤_, _<_}
 use native.Mathlib.Omega.{arith}
 use mathlib.Core.Path.{_≡_, refl, sym, ap, ap₂, _∙_}
-use mathlib.Core.Logic.{⊎-elim}
 use mathlib.Core.Bool.{Bool, true, false, _&&_}
 use mathlib.Core.List.{List}
 use borrow.Author.Tests.{lt-ltb, le-ltb}
@@ -22,14 +21,12 @@ use Rattle.rules.proofs.Steps.{need-met, need-broken, before-met, before-broken
 use Rattle.rules.proofs.Least.{least-below}
 use Rattle.rules.proofs.Breach.{run-met}
 use Rattle.rules.proofs.Meets.{form-is}
-use Rattle.rules.proofs.Form.{data-is}
 use Rattle.rules.proofs.Meets.{verdict-meets}
-use Rattle.rules.proofs.Search.{search-is}
 use Rattle.rules.specs.MeetsCover.{Reached}
 use Rattle.rules.proofs.Cover.{reached, carries-is}
 use Rattle.lines.specs.Reading.{sheetOf}
 use Rattle.lines.specs.declared.Reading.{Reading}
-use Rattle.lines.proofs.Sheets.{layout-is}
+use Rattle.lines.proofs.Sheets.{layout-is, rank-same}
 use Rattle.form.proofs.Known.{known, to-receiver-small, upto-small}
 use Rattle.records.specs.Coded.{codedReach}
 use Rattle.records.specs.declared.relation.Reach.{Reach as Numbers}
@@ -63,6 +60,7 @@ module _ (how : Reading) (r s x : List ℕ) where
         met = sym ok;
         receivers = known how 1 r (sym (run-met (form 1 (sheetOf how r)) .1 (form-is 1 (sheetOf how r) .1 (m .formR))));
         relations = known how 3 x (sym (run-met (form 3 (sheetOf how x)) .1 (form-is 3 (sheetOf how x) .1 (m .formX))));
+        alike = rank-same how r x;
       }
 
   -- what the set check says

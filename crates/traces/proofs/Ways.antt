@@ -2,7 +2,6 @@
 use Prim.Native.Nat.{ℕ, _-_, _≤_, _<_}
 use native.Mathlib.Omega.{arith}
 use mathlib.Core.Path.{_≡_, sym, ap, _∙_}
-use mathlib.Core.Logic.{⊎-elim}
 use mathlib.Core.Bool.{Bool, true, false}
 use mathlib.Core.List.{List}
 use borrow.Author.Tests.{le-leb, lt-leb, lt-ltb, le-ltb}
@@ -19,16 +18,14 @@ use Rattle.rules.specs.Reaches.{reachesOf, search}
 use Rattle.rules.specs.Check.{channel, noTrace}
 use Rattle.rules.specs.Lookup.{reaches, foundBack}
 use Rattle.rules.proofs.Tests.{clash, agree}
-use Rattle.rules.proofs.Form.{data-is}
 use Rattle.rules.proofs.Cover.{covers-is, carried}
 use Rattle.rules.proofs.Order.{at-is}
-use Rattle.rules.proofs.Search.{search-is}
 use Rattle.rules.proofs.Traces.{leads-is}
 use Rattle.lines.specs.Reading.{sheetOf}
 use Rattle.lines.specs.declared.Reading.{Reading}
 use Rattle.lines.proofs.Sheets.{layout-is}
 use Rattle.lines.proofs.Tests.{untrue}
-use Rattle.form.specs.Known.{Known}
+use Rattle.form.specs.Known.{owned, Known}
 use Rattle.form.proofs.Known.{point-number, upto-small}
 use Rattle.records.specs.Coded.{codedReach}
 use Rattle.records.specs.declared.relation.Reach.{Reach as Numbers}
@@ -51,7 +48,8 @@ unfolding pointAt point numberOf at sps93
 number-read how r i l n e f = f ∙ (rw (layout-is how r, e))
 
 -- relation line k and the receiver in line i
-module _ (r x : Sheet) (i k m : ℕ) (wr : ReceiverLine r i) (wx : Known 3 x) (h : RelationLine x k) (n : ℕ) (en : n ≡ pointAt r i .number) where
+module _ (r x : Sheet) (i k m : ℕ) (wr : ReceiverLine r i) (wx : Known 3 x)
+    (alike : r .rank ≡ x .rank) (h : RelationLine x k) (n : ℕ) (en : n ≡ pointAt r i .number) where
   abbrev Reaches : Bool
   Reaches = reaches (pointAt r i) m (reachAt x k)
 
@@ -72,10 +70,10 @@ module _ (r x : Sheet) (i k m : ℕ) (wr : ReceiverLine r i) (wx : Known 3 x) (h
   too-high s e z = sym (untrue _ (λ t. let w = leads-is (pointAt r i) m (reachAt x k) .0 t .1 .1 .1 .1 in omega arith))
 
   pub by-key : (b : Bool) → b ≡ covers (reachAt x k) n → b ≡ true → 1 ≤ m → (s : ℕ) → s ≡ reachAt x k .step → m ≤ s → (y : Key)
-      → y ≡ receiverKey (x .layout) (x .row k) n → (d : Bool) → d ≡ sameKey (keyAt Receivers r i) y → d ≡ Reaches
+      → y ≡ receiverKey (x .layout) (owned x k) n → (d : Bool) → d ≡ sameKey (keyAt Receivers r i) y → d ≡ Reaches
   by-key b e z o s es u y ey d ed =
       ed ∙ ap (sameKey (keyAt Receivers r i)) ey
-      ∙ receiver-is 1 r (wr .0) (λ z. omega arith) i (wr .1 .0) (wr .1 .1) x wx k (h .0) (h .1) n number-small
+      ∙ receiver-is 1 r (wr .0) (λ z. omega arith) i (wr .1 .0) (wr .1 .1) x wx alike k (h .0) (h .1) n number-small
       ∙ agree _ _
       (λ t.
       let w = at-is (reachAt x k .receiver) n (reachAt x k .receiverIndex) (pointAt r i) .0 t in

@@ -2,7 +2,7 @@
 --   lookupOn how r s x t n c     = the answer to the lookup
 --   wayBackOn how r s x t n j m  = the answer to the way back
 --   Table                        = what the spread table is asked: three sheets, a tape and a record, and the two slices as they are lent
---   tableOn                      = the same, of three files
+--   tableOf, tableOn             = the same, of three files
 --   Spreads put places T a l m   = a is its answer, and l and m stand in the slices afterwards; a slice d of lines has places d places
 --   SpreadTable, SpreadBytes     = the same where a line is a number, and where it is two bytes
 use Prim.Native.Nat.{ℕ, _/_}
@@ -31,17 +31,20 @@ pub record Table : Type 0 where
   pub lines : List ℕ
   pub components : List ℕ
 
-abbrev pub tableOn : Reading → List ℕ → List ℕ → List ℕ → List ℕ → ℕ → List ℕ → List ℕ → Table
-tableOn how r s x t n d e =
+abbrev pub tableOf : (List ℕ → Sheet) → List ℕ → List ℕ → List ℕ → List ℕ → ℕ → List ℕ → List ℕ → Table
+tableOf file r s x t n d e =
     record {
-      receivers = sheetOf how r;
-      shots = sheetOf how s;
-      relations = sheetOf how x;
+      receivers = file r;
+      shots = file s;
+      relations = file x;
       tape = t;
       number = n;
       lines = d;
       components = e;
     }
+
+abbrev pub tableOn : Reading → List ℕ → List ℕ → List ℕ → List ℕ → ℕ → List ℕ → List ℕ → Table
+tableOn how = tableOf (sheetOf how)
 
 pub record Spreads (put : Put) (places : List ℕ → ℕ) (T : Table) (a : Answer) (l m : List ℕ) : Type 0 where
   pub answer : a ≡ spread (T .receivers) (T .shots) (T .relations) (T .tape) (T .number) (places (T .lines)) (length (T .components))

@@ -9,7 +9,7 @@ ghost use Rattle.rules.specs.Points.{pointAt};
 ghost use Rattle.rules.specs.Check.{channel as channelAnswer};
 ghost use Rattle.rules.specs.Lookup.{reaches, found as foundOf, foundBack};
 ghost use Rattle.rules.specs.Spread.{spread as spreadOf};
-ghost use Rattle.lines.specs.Reading.{onDisc, sheetOf};
+ghost use Rattle.lines.specs.Reading.{sheetOf};
 ghost use Rattle.keys.specs.Held.{RelationLine};
 ghost use Rattle.spread.specs.Asked.{Asked, Accepted};
 ghost use Rattle.traces.specs.Paper.{paper, paperSpread};
@@ -73,7 +73,7 @@ fn found(how: Reading, r: &[u8], x: &[u8], tape: &[u8], record: u64, channel: u6
 }
 
 // The lookup: from tape, record and channel to the receiver's line and component.
-pub fn trace_on(q: Question, r: &[u8], s: &[u8], x: &[u8], tape: &[u8], channel: u64) -> Answer
+pub fn trace(q: Question, r: &[u8], s: &[u8], x: &[u8], tape: &[u8], channel: u64) -> Answer
     ensures answer { λ a. ⌜ paper a
         ≡ lookupOn (q .how) (now (r .entry)) (now (s .entry)) (now (x .entry)) (now (tape .entry)) (q .«record») channel ⌝ }
 {
@@ -85,18 +85,10 @@ pub fn trace_on(q: Question, r: &[u8], s: &[u8], x: &[u8], tape: &[u8], channel:
     if !asked::channel(channel) {
         return Answer::Refused(20, 0, 0, 0);
     }
-    match sets::check_on(how, r, s, x) {
+    match sets::check(how, r, s, x) {
         SetAnswer::Accepted(_, _, _, _) => found(how, r, x, tape, record, channel),
         SetAnswer::Refused(i, f, l, e) => Answer::Refused(i, f, l, e),
     }
-}
-
-// The lookup of files on disc.
-pub fn trace(r: &[u8], s: &[u8], x: &[u8], tape: &[u8], record: u64, channel: u64) -> Answer
-    ensures answer { λ a. ⌜ paper a ≡ lookupOn onDisc (now (r .entry)) (now (s .entry)) (now (x .entry)) (now (tape .entry)) «record» channel ⌝ }
-{
-    let how = lines::disc();
-    trace_on(Question { how, record }, r, s, x, tape, channel)
 }
 
 // The channel of relation line k for a component of the receiver in line i of R, from 0, which it reaches.
@@ -148,7 +140,7 @@ fn found_back(
 }
 
 // The way back: from tape, record, R line and component to the channel.
-pub fn channel_on(
+pub fn channel(
     q: Question,
     r: &[u8],
     s: &[u8],
@@ -168,27 +160,10 @@ pub fn channel_on(
     if !asked::receiver(r_line, component) {
         return Answer::Refused(20, 0, 0, 0);
     }
-    match sets::check_on(how, r, s, x) {
+    match sets::check(how, r, s, x) {
         SetAnswer::Accepted(_, _, _, _) => found_back(how, r, x, tape, record, r_line, component),
         SetAnswer::Refused(i, f, l, e) => Answer::Refused(i, f, l, e),
     }
-}
-
-// The way back of files on disc.
-pub fn channel(
-    r: &[u8],
-    s: &[u8],
-    x: &[u8],
-    tape: &[u8],
-    record: u64,
-    r_line: u64,
-    component: u64,
-) -> Answer
-    ensures answer { λ a. ⌜ paper a
-        ≡ wayBackOn onDisc (now (r .entry)) (now (s .entry)) (now (x .entry)) (now (tape .entry)) «record» «r_line» component ⌝ }
-{
-    let how = lines::disc();
-    channel_on(Question { how, record }, r, s, x, tape, r_line, component)
 }
 
 // What the spread table is answered for slices of m and n places.
@@ -201,7 +176,7 @@ fn judged(q: Question, r: &[u8], s: &[u8], x: &[u8], tape: &[u8], m: usize, n: u
     if !asked::record(tape, record) {
         return Spread::Refused(20, 0, 0, 0);
     }
-    let v = sets::check_on(how, r, s, x);
+    let v = sets::check(how, r, s, x);
     if let SetAnswer::Refused(i, f, l, e) = v {
         return Spread::Refused(i, f, l, e);
     }
@@ -217,7 +192,7 @@ fn judged(q: Question, r: &[u8], s: &[u8], x: &[u8], tape: &[u8], m: usize, n: u
 
 // The spread table: place c - 1 of the slices takes the R line and the component of channel c, or 0 and 0, up to the record's highest
 // covered channel; later places stay, and a refusal writes nothing.
-pub fn spread_on(
+pub fn spread_table(
     q: Question,
     r: &[u8],
     s: &[u8],
@@ -239,25 +214,8 @@ pub fn spread_on(
     a
 }
 
-// The spread table of files on disc.
-pub fn spread_table(
-    r: &[u8],
-    s: &[u8],
-    x: &[u8],
-    tape: &[u8],
-    record: u64,
-    lines: &mut [u16],
-    components: &mut [u8],
-) -> Spread
-    ensures table { λ a. ⌜ SpreadTable (tableOn onDisc (now (r .entry)) (now (s .entry)) (now (x .entry)) (now (tape .entry)) «record»
-        (now (lines .entry)) (now (components .entry))) (paperSpread a) (now (lines .exit)) (now (components .exit)) ⌝ }
-{
-    let how = lines::disc();
-    spread_on(Question { how, record }, r, s, x, tape, lines, components)
-}
-
 // The same for hosts whose slices are bytes: two bytes a number, low byte first; an odd last byte is no place and stays.
-pub fn bytes_on(
+pub fn spread_bytes(
     q: Question,
     r: &[u8],
     s: &[u8],
@@ -277,21 +235,4 @@ pub fn bytes_on(
     }
     spread::fill_bytes(how, r, x, tape, record, lines, components);
     v
-}
-
-// The same of files on disc.
-pub fn spread_bytes(
-    r: &[u8],
-    s: &[u8],
-    x: &[u8],
-    tape: &[u8],
-    record: u64,
-    lines: &mut [u8],
-    components: &mut [u8],
-) -> Spread
-    ensures table { λ a. ⌜ SpreadBytes (tableOn onDisc (now (r .entry)) (now (s .entry)) (now (x .entry)) (now (tape .entry)) «record»
-        (now (lines .entry)) (now (components .entry))) (paperSpread a) (now (lines .exit)) (now (components .exit)) ⌝ }
-{
-    let how = lines::disc();
-    bytes_on(Question { how, record }, r, s, x, tape, lines, components)
 }

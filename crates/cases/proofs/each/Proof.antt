@@ -6,10 +6,10 @@ use Rattle.cases.proofs.each.Statement.{statement}
 use Rattle.cases.proofs.each.Tie as tie
 
 abbrev Inv-loop : tie.InvT-loop
-Inv-loop names n₀ n = n ≤ length names + 1
+Inv-loop how names n₀ n = n ≤ length names + 1
 
 abbrev μ-loop : tie.MeasureT-loop
-μ-loop names n₀ n = length names + 1 - n
+μ-loop how names n₀ n = length names + 1 - n
 
 loop-holds : tie.Need-loop-holds Inv-loop μ-loop
 loop-holds c = search needs

@@ -1,49 +1,31 @@
 -- `cases::main` meets its contract. Assumes nothing.
-use Prim.Native.Nat.{ℕ, _≤_}
-use mathlib.Core.Path.{_≡_, sym, _∙_}
-use native.Mathlib.Omega.{arith}
-use lib.Seq.{length-take-le}
 use borrow.Author.Needs.{needs}
 use Rattle.cases.proofs.main.Statement.{statement}
 use Rattle.cases.proofs.main.Tie as tie
-use Rattle.files.specs.declared.input.Input.{Input}
-use Rattle.files.specs.declared.input.Input.the-variants.{Bytes}
-use Rattle.files.specs.Reads.{sizeOf}
 
-within : (i j : Input) (n m : ℕ) → i ≡ j → i ≡ Bytes n → sizeOf j ≤ m → n ≤ m
-within i j n m d e h = let q : j ≡ Bytes n = sym d ∙ e in rw q at h
+disc-requires : tie.Need-disc-requires
+disc-requires c κs = search needs
 
-buffer-requires : tie.Need-buffer-requires
-buffer-requires c κs = search needs
+slice-aggregate-listed : tie.Need-slice-aggregate-listed
+slice-aggregate-listed c = search needs
 
-slice-aggregate-load : tie.Need-slice-aggregate-load
-slice-aggregate-load c = search needs
+listed-requires : tie.Need-listed-requires
+listed-requires c κs = search needs
 
-slice-aggregate-load-2 : tie.Need-slice-aggregate-load-2
-slice-aggregate-load-2 c = search needs
+chosen-requires : tie.Need-chosen-requires
+chosen-requires c κs = search needs
 
-load-requires : tie.Need-load-requires
-load-requires c κs = search needs
+enum-known-how : tie.Need-enum-known-how
+enum-known-how c = search needs
 
-input-requires : tie.Need-input-requires
-input-requires c κs = search needs
+slice-aggregate-listed-2 : tie.Need-slice-aggregate-listed-2
+slice-aggregate-listed-2 c = search needs
 
-enum-known-n : tie.Need-enum-known-n
-enum-known-n c = search needs
+listed-requires-2 : tie.Need-listed-requires-2
+listed-requires-2 c κs = search needs
 
-array-share-prefix-names : tie.Need-array-share-prefix-names
-array-share-prefix-names c =
-    let t = c .before .before .before .before .before .load in
-    omega (arith, within _ _ _ _ (c .before .before .before .input .ensures) (c .before .n .given .1) (t .ensures .fits), t .kept .1 .0)
-
-slice-aggregate-each : tie.Need-slice-aggregate-each
-slice-aggregate-each c =
-    let t = c .before .before .before .before .before .before .load in
-    let h = within _ _ _ _ (c .before .before .before .before .input .ensures) (c .before .before .n .given .1) (t .ensures .fits) in
-    sym (length-take-le _ (t .last .1 .0) (omega (arith, h, t .kept .1 .0)))
-
-each-requires : tie.Need-each-requires
-each-requires c κs = search needs
+enum-told : tie.Need-enum-told
+enum-told c = search needs
 
 returns : tie.Need-returns
 returns c = search needs
@@ -55,14 +37,13 @@ pub main-spec : {M : Type 1} → statement M
 main-spec =
     tie.close
     (tie.spec
-    buffer-requires
-    slice-aggregate-load
-    slice-aggregate-load-2
-    load-requires
-    input-requires
-    enum-known-n
-    array-share-prefix-names
-    slice-aggregate-each
-    each-requires
+    disc-requires
+    slice-aggregate-listed
+    listed-requires
+    chosen-requires
+    enum-known-how
+    slice-aggregate-listed-2
+    listed-requires-2
+    enum-told
     returns
     returns-2)

@@ -44,38 +44,38 @@ large-buffer-requires-2 c κs = search needs
 array-share-prefix-r : tie.Need-array-share-prefix-r
 array-share-prefix-r c = search needs
 
-slice-aggregate-print : tie.Need-slice-aggregate-print
-slice-aggregate-print c =
+slice-aggregate-said : tie.Need-slice-aggregate-said
+slice-aggregate-said c =
     let t = c .before .before .before .before .before .before .before .before .before .before .before .before .before .before .before .path in
     sym (length-take-le (t .result) (t .last .1 .1 .0) (omega (arith, t .ensures, t .kept .1 .1 .0)))
 
 array-share-prefix-s : tie.Need-array-share-prefix-s
 array-share-prefix-s c = search needs
 
-slice-aggregate-print-2 : tie.Need-slice-aggregate-print-2
-slice-aggregate-print-2 c =
+slice-aggregate-said-2 : tie.Need-slice-aggregate-said-2
+slice-aggregate-said-2 c =
     let t = c .before .before .before .before .before .before .before .before .before .before .before .before .path2 in
     sym (length-take-le (t .result) (t .last .1 .1 .0) (omega (arith, t .ensures, t .kept .1 .1 .0)))
 
 array-share-prefix-x : tie.Need-array-share-prefix-x
 array-share-prefix-x c = search needs
 
-slice-aggregate-print-3 : tie.Need-slice-aggregate-print-3
-slice-aggregate-print-3 c =
+slice-aggregate-said-3 : tie.Need-slice-aggregate-said-3
+slice-aggregate-said-3 c =
     let t = c .before .before .before .before .before .before .before .before .before .path3 in
     sym (length-take-le (t .result) (t .last .1 .1 .0) (omega (arith, t .ensures, t .kept .1 .1 .0)))
 
-slice-aggregate-print-4 : tie.Need-slice-aggregate-print-4
-slice-aggregate-print-4 c = sym (length-replicate {A = ℕ} 820082 0)
+slice-aggregate-said-4 : tie.Need-slice-aggregate-said-4
+slice-aggregate-said-4 c = sym (length-replicate {A = ℕ} 820082 0)
 
-slice-aggregate-print-5 : tie.Need-slice-aggregate-print-5
-slice-aggregate-print-5 c = search needs
+slice-aggregate-said-5 : tie.Need-slice-aggregate-said-5
+slice-aggregate-said-5 c = search needs
 
-slice-aggregate-print-6 : tie.Need-slice-aggregate-print-6
-slice-aggregate-print-6 c = search needs
+slice-aggregate-said-6 : tie.Need-slice-aggregate-said-6
+slice-aggregate-said-6 c = search needs
 
-print-requires : tie.Need-print-requires
-print-requires c κs = search needs
+said-requires : tie.Need-said-requires
+said-requires c κs = search needs
 
 returns : tie.Need-returns
 returns c = search needs
@@ -96,13 +96,13 @@ one-spec =
     large-buffer-requires
     large-buffer-requires-2
     array-share-prefix-r
-    slice-aggregate-print
+    slice-aggregate-said
     array-share-prefix-s
-    slice-aggregate-print-2
+    slice-aggregate-said-2
     array-share-prefix-x
-    slice-aggregate-print-3
-    slice-aggregate-print-4
-    slice-aggregate-print-5
-    slice-aggregate-print-6
-    print-requires
+    slice-aggregate-said-3
+    slice-aggregate-said-4
+    slice-aggregate-said-5
+    slice-aggregate-said-6
+    said-requires
     returns)

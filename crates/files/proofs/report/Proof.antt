@@ -47,6 +47,9 @@ returns-3 c =
     let e = says-next _ (says (a .before .before .before .fault .ensures)) (a .if1 .left) later in
     (e .value, (e .written, c .before .before .before .fault3 .ensures .1 .1))
 
+disc-requires : tie.Need-disc-requires
+disc-requires c κs = search needs
+
 part-requires : tie.Need-part-requires
 part-requires c κs = search needs
 
@@ -73,8 +76,9 @@ returns-4 c =
     let p = c .before .before .before .before .before .before .before .part .ensures in
     let q = c .before .before .before .before .before .before .part2 .ensures in
     let t = c .before .before .before .before .before .part3 .ensures in
-    let v = says-verdict (k .result) _ _ _ _ _ _ _ _ _ (k .ensures) p q t (says said) in
-    let d = c .before .before .before .before .before .before .before .before in
+    let h = c .before .before .before .before .before .before .before .before in
+    let v = says-verdict _ (h .disc .ensures) (k .result) _ _ _ _ _ _ _ _ _ (k .ensures) p q t (says said) in
+    let d = h .before in
     let b = d .before .before .before .before .before in
     let a = b .before .before .before .before .before in
     let last = says-next _ (says (d .before .before .before .fault3 .ensures)) (d .if3 .left) v in
@@ -95,6 +99,7 @@ report-spec =
     fault-requires-3
     same-length-3
     returns-3
+    disc-requires
     part-requires
     part-requires-2
     part-requires-3

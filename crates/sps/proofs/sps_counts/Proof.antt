@@ -1,11 +1,10 @@
 -- `sps::sps_counts` meets its contract. Assumes nothing.
-use Rattle.lines.specs.Reading.{sheetOf}
 use borrow.Author.Needs.{needs}
 use Rattle.sps.proofs.sps_counts.Statement.{statement}
 use Rattle.sps.proofs.sps_counts.Tie as tie
 
-check-requires : tie.Need-check-requires
-check-requires c κs = search needs
+checked-requires : tie.Need-checked-requires
+checked-requires c κs = search needs
 
 put-counts-requires : tie.Need-put-counts-requires
 put-counts-requires c κs = search needs
@@ -17,9 +16,8 @@ same-length : tie.Need-same-length
 same-length c = search needs
 
 returns : tie.Need-returns
-unfolding sheetOf
-returns c = rw (← (c .before .before .before .before .before .check .ensures)) (c .set-number .ensures, c .before .before .before .put-counts .ensures)
+returns c = rw (← (c .before .before .before .before .before .checked .ensures)) (c .set-number .ensures, c .before .before .before .put-counts .ensures)
 
 pub sps-counts-spec : {M : Type 1} → statement M
 sps-counts-spec =
-    tie.close (tie.spec check-requires put-counts-requires set-number-requires same-length returns)
+    tie.close (tie.spec checked-requires put-counts-requires set-number-requires same-length returns)

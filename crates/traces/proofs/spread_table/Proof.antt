@@ -1,13 +1,36 @@
 -- `traces::spread_table` meets its contract. Assumes nothing.
+use Rattle.rules.specs.Spread.{componentOf, lineOf, place}
+use Rattle.traces.proofs.Tables.{components-filled, leaves, lines-filled, may-fill}
 use borrow.Author.Needs.{needs}
 use Rattle.traces.proofs.spread_table.Statement.{statement}
 use Rattle.traces.proofs.spread_table.Tie as tie
 
-disc-requires : tie.Need-disc-requires
-disc-requires c κs = search needs
+judged-requires : tie.Need-judged-requires
+judged-requires c κs = search needs
 
-spread-on-requires : tie.Need-spread-on-requires
-spread-on-requires c κs = search needs
+enum-told : tie.Need-enum-told
+enum-told c = search needs
+
+returns : tie.Need-returns
+returns c =
+    let a = c .before .before .before .before .before .before .before .before .before .before .args in
+    let e = c .before .before .judged .ensures in
+    let z = c .enum-told .given .1 in
+    record {
+      answer = e;
+      lines = leaves (a .q .how) (a .r .now) (a .s .now) (a .x .now) (a .tape .now) (a .q .«record») _ _ _ e _ _ _ _ z place lineOf (a .lines .now);
+      components = leaves (a .q .how) (a .r .now) (a .s .now) (a .x .now) (a .tape .now) (a .q .«record») _ _ _ e _ _ _ _ z place componentOf
+          (a .components .now);
+    }
+
+enum-told-2 : tie.Need-enum-told-2
+enum-told-2 c = search needs
+
+fill-requires : tie.Need-fill-requires
+fill-requires c κs =
+    let a = c .before .before .before .before .before .before .before .before .before .before .before .before .args in
+    may-fill (a .q .how) (a .r .now) (a .s .now) (a .x .now) (a .tape .now) (a .q .«record») _ _ _
+    (c .before .before .before .before .judged .ensures) _ (c .before .before .enum-told2 .given .1)
 
 same-length : tie.Need-same-length
 same-length c = search needs
@@ -15,15 +38,27 @@ same-length c = search needs
 same-length-2 : tie.Need-same-length-2
 same-length-2 c = search needs
 
-returns : tie.Need-returns
-returns c = rw (c .before .before .before .before .before .before .before .disc .ensures) at (c .before .before .before .before .spread-on .ensures)
+returns-2 : tie.Need-returns-2
+returns-2 c =
+    let a = c .before .before .before .before .before .before .before .before .before .before .before .before .before .before .before .before .before .args in
+    let e = c .before .before .before .before .before .before .before .before .before .judged .ensures in
+    let z = c .before .before .before .before .before .before .before .enum-told2 .given .1 in
+    let w = c .before .before .before .before .fill .ensures in
+    record {
+      answer = e;
+      lines = lines-filled (a .q .how) (a .r .now) (a .s .now) (a .x .now) (a .tape .now) (a .q .«record») _ _ _ e _ z place lineOf (a .lines .now) _ (w .0);
+      components = components-filled (a .q .how) (a .r .now) (a .s .now) (a .x .now) (a .tape .now) (a .q .«record») _ _ _ e _ z (a .components .now) _ (w .1);
+    }
 
 pub spread-table-spec : {M : Type 1} → statement M
 spread-table-spec =
     tie.close
     (tie.spec
-    disc-requires
-    spread-on-requires
+    judged-requires
+    enum-told
+    returns
+    enum-told-2
+    fill-requires
     same-length
     same-length-2
-    returns)
+    returns-2)

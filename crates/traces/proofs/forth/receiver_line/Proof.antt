@@ -1,5 +1,6 @@
 -- `traces::forth::receiver_line` meets its contract. Assumes nothing.
 use Prim.Native.Nat.{_-_, _≤_, ℕ}
+use Rattle.lines.proofs.Sheets.{rank-same}
 use Rattle.lines.specs.Reading.{sheetOf}
 use Rattle.rules.proofs.Steps.{least-more, least-none-yet, least-stop}
 use Rattle.rules.specs.Places.{least}
@@ -41,7 +42,7 @@ returns c =
     let n = b .line-count .ensures in
     let y = c .before .before .loop-test .taken in
     sym (least-stop _ _ (R .count) (omega arith) (c .before .before .before .loop .inv .1) (sym (c .before .holds .ensures) ∙ c .if1 .taken))
-    ∙ line-of-key R (sheetOf (a .how) (a .x .now)) (p .0) (p .1 .0) (a .k) (p .1 .1) (a .n) (d .fits .n .fits) _
+    ∙ line-of-key R (sheetOf (a .how) (a .x .now)) (p .0) (p .1 .0) (rank-same (a .how) (a .r .now) (a .x .now)) (a .k) (p .1 .1) (a .n) (d .fits .n .fits) _
     (key-read (a .how) (a .x .now) (a .k) (a .n) _ (b .before .receiver-key .ensures))
 
 add-j : tie.Need-add-j Inv-loop μ-loop
@@ -66,7 +67,7 @@ returns-2 c =
     let z : b .line-count .result ≡ at .j = omega arith in
     let u : at .j ≡ R .count = omega arith in
     z ∙ sym (at .inv .1) ∙ ap (λ (i : ℕ). least i (holdsKey Receivers R (b .before .receiver-key .result))) u
-    ∙ line-of-key R (sheetOf (a .how) (a .x .now)) (p .0) (p .1 .0) (a .k) (p .1 .1) (a .n) (d .fits .n .fits) _
+    ∙ line-of-key R (sheetOf (a .how) (a .x .now)) (p .0) (p .1 .0) (rank-same (a .how) (a .r .now) (a .x .now)) (a .k) (p .1 .1) (a .n) (d .fits .n .fits) _
     (key-read (a .how) (a .x .now) (a .k) (a .n) _ (b .before .receiver-key .ensures))
 
 pub receiver-line-spec : {M : Type 1} → statement M
