@@ -1,4 +1,7 @@
-/* Every call and every inline function of sps.h, from C. The argument is the folder of set A. */
+/*
+ * Every call and every inline function of sps.h, from C. The arguments are the folders of set A on
+ * disc and on tape.
+ */
 #include "try.h"
 #include <string.h>
 
@@ -10,7 +13,7 @@ enum { LAST_HEADER = 21, FIRST, SECOND, THIRD };
 /* What stands in memory that is lent to be written. */
 enum { STAYS = 0xAA };
 
-/* Text over the columns of a line, from 1. */
+/* Text over the columns of a line on disc, from 1. */
 static void put(struct bytes file, size_t line, size_t column, const char *text)
 {
     memcpy(file.at + (line - 1) * 82 + column - 1, text, strlen(text));
@@ -133,10 +136,10 @@ static void spreads(struct set set)
     SAME(sps_spread(FILES(set), tape, 6, 12, NULL, 0, NULL, 0), 0);
 }
 
-/* Files of no byte. */
+/* Files of no byte on disc. */
 static void nothing(struct set set)
 {
-    struct set none = {{NULL, 0}, {NULL, 0}, {NULL, 0}};
+    struct set none = {SPS_DISC, {NULL, 0}, {NULL, 0}, {NULL, 0}};
     struct set one = set;
     const uint64_t no_header = refusal(SPS_HEADER_TYPE, SPS_R, 1, 0);
     refused(none, no_header);
@@ -150,7 +153,7 @@ static void nothing(struct set set)
     refused(one, refusal(SPS_HEADER_DIFFERS, SPS_X, 1, 0));
 }
 
-/* Edits of set A, and what each call says of them. */
+/* Edits of set A on disc, and what each call says of them. */
 static void edits(struct set set)
 {
     struct set cut = set;
@@ -183,6 +186,62 @@ static void edits(struct set set)
     accepted(set);
 }
 
+/* What each call says of a set that is refused. */
+static void refused_by_all(struct set set, uint64_t expected)
+{
+    refused(set, expected);
+    SAME(sps_trace(FILES(set), tape, 6, 11, 2), expected);
+    SAME(sps_channel(FILES(set), tape, 6, 11, SECOND, 1), expected);
+    spread(set, 11, 6, 3, expected, 0);
+}
+
+/* Tapes that are cut, end nowhere or go on, and bytes that no tape takes. */
+static void tapes(struct set set)
+{
+    struct set cut = set;
+    uint8_t *end = set.x.at + FIRST * 80, *blank = set.s.at + 79;
+    SAME(sps_channel(FILES(set), tape, 6, 11, THIRD + 1, 1), 0);
+
+    cut.r.len -= 1;
+    refused_by_all(cut, refusal(SPS_FILE_LENGTH, SPS_R, THIRD + 1, 0));
+    cut.r.len -= 79;
+    refused_by_all(cut, refusal(SPS_TAPE_END, SPS_R, THIRD + 1, 0));
+    cut.r.len = 0;
+    refused_by_all(cut, refusal(SPS_TAPE_END, SPS_R, 1, 0));
+
+    end[0] = 'E';
+    refused_by_all(set, refusal(SPS_TAPE_END, SPS_X, FIRST + 2, 0));
+    end[0] = 0xC5;
+    memset(end + 3, 0, 77);
+    accepted(set);
+
+    *blank = ' ';
+    refused_by_all(set, refusal(SPS_BYTE, SPS_S, 1, 80));
+    *blank = 0x40;
+    accepted(set);
+}
+
+/* A medium that is neither comes before all else, also where fewer bits would be one. */
+static void media(struct set set)
+{
+    static const uint64_t others[] = {0, 3, UINT64_C(0x100000001), UINT64_C(0x100000002),
+                                      UINT64_C(0x8000000000000001), UINT64_MAX};
+    const uint64_t no = refusal(SPS_QUESTION_RANGE, SPS_NO_FILE, 0, 0);
+    struct set cut = set;
+    size_t at;
+    cut.r.len = 79;
+    for (at = 0; at < sizeof others / sizeof *others; at++) {
+        set.medium = cut.medium = others[at];
+        refused_by_all(set, no);
+        refused_by_all(cut, no);
+        SAME(sps_trace(FILES(cut), tape, 6, 11, 0), no);
+        SAME(sps_trace(FILES(cut), NULL, 0, 11, 2), no);
+        SAME(sps_channel(FILES(cut), tape, 6, 11, SECOND, 10), no);
+        spread(cut, UINT64_MAX, 6, 3, no, 0);
+        spread(set, 11, 0, 0, no, 0);
+    }
+}
+
 /* The parts of numbers at their ends. */
 static void parts(void)
 {
@@ -200,21 +259,32 @@ static void parts(void)
     SAME(sps_trace_component(9999 * 16 + 9), 9);
 }
 
-int main(int count, char **words)
+/* What is the same on both media. */
+static void both(struct set set)
 {
-    struct set set;
-    if (count != 2) {
-        fprintf(stderr, "usage: %s FOLDER\n", words[0]);
-        return 2;
-    }
-    set = read_set(words[1]);
     accepted(set);
     lookups(set);
     out_of_range(set);
     spreads(set);
-    nothing(set);
-    edits(set);
+    media(set);
+}
+
+int main(int count, char **words)
+{
+    struct set disc, on_tape;
+    if (count != 3) {
+        fprintf(stderr, "usage: %s DISC TAPE\n", words[0]);
+        return 2;
+    }
+    disc = read_set(SPS_DISC, words[1]);
+    on_tape = read_set(SPS_TAPE, words[2]);
+    both(disc);
+    both(on_tape);
+    nothing(disc);
+    edits(disc);
+    tapes(on_tape);
     parts();
-    free_set(set);
+    free_set(disc);
+    free_set(on_tape);
     return failures != 0;
 }

@@ -1,4 +1,4 @@
-// Every call of sps.h from C++, on set A. The argument is its folder.
+// Every call of sps.h from C++, on set A. The arguments are its folders on disc and on tape.
 #include "sps.h"
 #include <cstddef>
 #include <cstdint>
@@ -33,36 +33,43 @@ Bytes read(const std::string &path)
 }
 
 struct Set {
+    std::uint64_t medium;
     Bytes r, s, x;
 
     std::uint64_t check() const
     {
-        return sps_check(r.data(), r.size(), s.data(), s.size(), x.data(), x.size());
+        return sps_check(medium, r.data(), r.size(), s.data(), s.size(), x.data(), x.size());
     }
     std::uint64_t counts(Bytes &counts) const
     {
-        return sps_counts(r.data(), r.size(), s.data(), s.size(), x.data(), x.size(), counts.data(),
-                          counts.size());
+        return sps_counts(medium, r.data(), r.size(), s.data(), s.size(), x.data(), x.size(),
+                          counts.data(), counts.size());
     }
     std::uint64_t trace(const Bytes &tape, std::uint64_t record, std::uint64_t channel) const
     {
-        return sps_trace(r.data(), r.size(), s.data(), s.size(), x.data(), x.size(), tape.data(),
-                         tape.size(), record, channel);
+        return sps_trace(medium, r.data(), r.size(), s.data(), s.size(), x.data(), x.size(),
+                         tape.data(), tape.size(), record, channel);
     }
     std::uint64_t channel(const Bytes &tape, std::uint64_t record, std::uint64_t r_line,
                           std::uint64_t component) const
     {
-        return sps_channel(r.data(), r.size(), s.data(), s.size(), x.data(), x.size(), tape.data(),
-                           tape.size(), record, r_line, component);
+        return sps_channel(medium, r.data(), r.size(), s.data(), s.size(), x.data(), x.size(),
+                           tape.data(), tape.size(), record, r_line, component);
     }
     std::uint64_t spread(const Bytes &tape, std::uint64_t record, Bytes &lines,
                          Bytes &components) const
     {
-        return sps_spread(r.data(), r.size(), s.data(), s.size(), x.data(), x.size(), tape.data(),
-                          tape.size(), record, lines.data(), lines.size(), components.data(),
-                          components.size());
+        return sps_spread(medium, r.data(), r.size(), s.data(), s.size(), x.data(), x.size(),
+                          tape.data(), tape.size(), record, lines.data(), lines.size(),
+                          components.data(), components.size());
     }
 };
+
+Set read_set(std::uint64_t medium, const std::string &folder)
+{
+    return {medium, read(folder + "/set.r01"), read(folder + "/set.s01"),
+            read(folder + "/set.x01")};
+}
 
 // The counts of set A in so many bytes, as far as there are whole places; all else stays.
 Bytes counted(std::size_t length)
@@ -99,7 +106,8 @@ void answers(const Set &set)
     same("a tape too short", sps_refusal_number(set.trace({'1'}, 11, 3)), SPS_QUESTION_RANGE);
 }
 
-void refusals(Set set)
+// A byte more at the end of R, whose last line is given.
+void refusals(Set set, unsigned last)
 {
     Bytes counts(33, 0xAA);
     const Bytes stays = counts;
@@ -108,23 +116,39 @@ void refusals(Set set)
     same("is refused", sps_is_refused(answer), 1);
     same("the number", sps_refusal_number(answer), SPS_FILE_LENGTH);
     same("the file", sps_refusal_file(answer), SPS_R);
-    same("the line", sps_refusal_line(answer), THIRD + 1);
+    same("the line", sps_refusal_line(answer), last + 1);
     same("the column", sps_refusal_column(answer), 0u);
     same("the counts of a refusal", counts, stays);
-    same("an empty set", sps_refusal_number(Set().check()), SPS_HEADER_TYPE);
+}
+
+// Files of no byte, and a medium that is neither.
+void media(Set set)
+{
+    const Set disc = {SPS_DISC, {}, {}, {}}, tape = {SPS_TAPE, {}, {}, {}};
+    Bytes counts(32, 0xAA);
+    const Bytes stays = counts;
+    same("an empty set on disc", sps_refusal_number(disc.check()), SPS_HEADER_TYPE);
+    same("an empty set on tape", sps_refusal_number(tape.check()), SPS_TAPE_END);
+    for (std::uint64_t medium : {UINT64_C(0), UINT64_C(3), UINT64_C(0x100000001), UINT64_MAX}) {
+        set.medium = medium;
+        same("another medium", sps_refusal_number(set.counts(counts)), SPS_QUESTION_RANGE);
+        same("the counts of another medium", counts, stays);
+    }
 }
 
 } // namespace
 
 int main(int count, char **words)
 {
-    if (count != 2) {
-        std::cerr << "usage: " << words[0] << " FOLDER\n";
+    if (count != 3) {
+        std::cerr << "usage: " << words[0] << " DISC TAPE\n";
         return 2;
     }
-    const std::string folder = words[1];
-    const Set set = {read(folder + "/set.r01"), read(folder + "/set.s01"), read(folder + "/set.x01")};
-    answers(set);
-    refusals(set);
+    const Set disc = read_set(SPS_DISC, words[1]), tape = read_set(SPS_TAPE, words[2]);
+    answers(disc);
+    answers(tape);
+    refusals(disc, THIRD);
+    refusals(tape, THIRD + 1);
+    media(disc);
     return failures != 0;
 }

@@ -27,7 +27,7 @@ int main(int count, char **names)
     s_len = read_file(names[2], s);
     x_len = read_file(names[3], x);
 
-    answer = sps_counts(r, r_len, s, s_len, x, x_len, counts, sizeof counts);
+    answer = sps_counts(SPS_DISC, r, r_len, s, s_len, x, x_len, counts, sizeof counts);
     if (sps_is_refused(answer)) {
         printf("refused with %u: file %u, line %u, column %u\n", sps_refusal_number(answer),
                sps_refusal_file(answer), sps_refusal_line(answer), sps_refusal_column(answer));
@@ -35,7 +35,7 @@ int main(int count, char **names)
     }
     printf("%lu receivers, %lu traces\n", (unsigned long)sps_count(counts, SPS_RECEIVERS),
            (unsigned long)sps_count(counts, SPS_TRACES));
-    answer = sps_trace(r, r_len, s, s_len, x, x_len, (const uint8_t *)"100   ", 6, 11, 2);
+    answer = sps_trace(SPS_DISC, r, r_len, s, s_len, x, x_len, (const uint8_t *)"100   ", 6, 11, 2);
     printf("R line %u, component %u\n", sps_trace_line(answer), sps_trace_component(answer));
     return 0;
 }

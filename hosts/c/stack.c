@@ -1,6 +1,7 @@
 /*
- * Every call in a thread of a small stack. The arguments are the folder of a set of 9,999 lines a file
- * and the record to ask for, on tape 100. It prints the five answers in one line.
+ * Every call in a thread of a small stack. The arguments are the medium and the folder of a set of
+ * 9,999 lines a file, and the record to ask for, on tape 100. It prints the five answers in one
+ * line.
  */
 #include "try.h"
 #include <pthread.h>
@@ -37,13 +38,13 @@ int main(int count, char **words)
     struct answers to;
     pthread_attr_t small;
     pthread_t thread;
-    if (count != 3) {
-        fprintf(stderr, "usage: %s FOLDER RECORD\n", words[0]);
+    if (count != 4) {
+        fprintf(stderr, "usage: %s MEDIUM FOLDER RECORD\n", words[0]);
         return 2;
     }
     memset(&to, 0, sizeof to);
-    to.set = read_set(words[1]);
-    to.record = strtoull(words[2], NULL, 10);
+    to.set = read_set(strtoull(words[1], NULL, 10), words[2]);
+    to.record = strtoull(words[3], NULL, 10);
     if (pthread_attr_init(&small) != 0 || pthread_attr_setstacksize(&small, STACK) != 0 ||
         pthread_create(&thread, &small, ask, &to) != 0 || pthread_join(thread, NULL) != 0) {
         fprintf(stderr, "no thread of %d bytes of stack\n", STACK);

@@ -34,11 +34,13 @@ struct bytes {
 };
 
 struct set {
+    uint64_t medium;
     struct bytes r, s, x;
 };
 
-/* The files of a set as the calls take them. */
-#define FILES(set) (set).r.at, (set).r.len, (set).s.at, (set).s.len, (set).x.at, (set).x.len
+/* The medium and the files of a set, as the calls take them. */
+#define FILES(set) \
+    (set).medium, (set).r.at, (set).r.len, (set).s.at, (set).s.len, (set).x.at, (set).x.len
 
 static inline struct bytes read_file(const char *folder, const char *name)
 {
@@ -62,9 +64,10 @@ static inline struct bytes read_file(const char *folder, const char *name)
     return bytes;
 }
 
-static inline struct set read_set(const char *folder)
+static inline struct set read_set(uint64_t medium, const char *folder)
 {
     struct set set;
+    set.medium = medium;
     set.r = read_file(folder, "set.r01");
     set.s = read_file(folder, "set.s01");
     set.x = read_file(folder, "set.x01");

@@ -1,6 +1,6 @@
 """Every call of libsps from Python, through ctypes.
 
-The arguments are a shared object made of the archive and the folder of set A.
+The arguments are a shared object made of the archive and the folders of set A on disc and on tape.
 """
 
 import ctypes
@@ -10,9 +10,11 @@ from pathlib import Path
 
 U64 = ctypes.c_uint64
 SIZE = ctypes.c_size_t
-FILES = [ctypes.c_char_p, SIZE] * 3
+FILES = [U64] + [ctypes.c_char_p, SIZE] * 3
 RECORD = [ctypes.c_char_p, SIZE, U64]
 BYTES = [ctypes.POINTER(ctypes.c_uint8), SIZE]
+
+DISC, TAPE = 1, 2
 
 # The receivers of set A by their lines in R.
 FIRST, SECOND, THIRD = 22, 23, 24
@@ -35,10 +37,10 @@ def library(path):
     return sps
 
 
-def files(folder):
+def files(medium, folder):
     """The set of a folder, as the calls take it."""
     read = [Path(folder, name).read_bytes() for name in ("set.r01", "set.s01", "set.x01")]
-    return [part for file in read for part in (file, len(file))]
+    return [medium] + [part for file in read for part in (file, len(file))]
 
 
 def refusal(number, file, line, column):
@@ -64,14 +66,18 @@ def answers(sps, set_a):
     assert bytes(components) == bytes([1, 1, 1])
 
 
-def refusals(sps, set_a):
-    """What is refused, and what that leaves."""
+def refusals(sps, set_a, last):
+    """What is refused, and what that leaves; the last line of R is given."""
     counts = (ctypes.c_uint8 * 32)(*[170] * 32)
-    r, r_len = set_a[:2]
-    cut = [r, r_len - 1] + set_a[2:]
-    assert sps.sps_counts(*cut, counts, 32) == refusal(1, 1, THIRD, 0)
+    medium, r, r_len = set_a[:3]
+    cut = [medium, r, r_len - 1] + set_a[3:]
+    assert sps.sps_counts(*cut, counts, 32) == refusal(1, 1, last, 0)
+    for other in (0, 3, 2**32 + 1, 2**64 - 1):
+        assert sps.sps_counts(other, *set_a[1:], counts, 32) == refusal(20, 0, 0, 0)
+        assert sps.sps_check(other, *cut[1:]) == refusal(20, 0, 0, 0)
     assert bytes(counts) == bytes([170] * 32)
-    assert sps.sps_check(None, 0, None, 0, None, 0) == refusal(7, 1, 1, 0)
+    assert sps.sps_check(DISC, None, 0, None, 0, None, 0) == refusal(7, 1, 1, 0)
+    assert sps.sps_check(TAPE, None, 0, None, 0, None, 0) == refusal(29, 1, 1, 0)
     assert sps.sps_trace(*set_a, b"100", 3, 11, 2) == refusal(20, 0, 0, 0)
     assert sps.sps_trace(*set_a, b"100   ", 6, 2**64 - 1, 2) == refusal(20, 0, 0, 0)
 
@@ -85,10 +91,11 @@ def refusals(sps, set_a):
 
 
 def main():
-    shared, folder = sys.argv[1:]
-    sps, set_a = library(shared), files(folder)
-    answers(sps, set_a)
-    refusals(sps, set_a)
+    shared, disc, tape = sys.argv[1:]
+    sps = library(shared)
+    for set_a, last in ((files(DISC, disc), THIRD), (files(TAPE, tape), THIRD + 1)):
+        answers(sps, set_a)
+        refusals(sps, set_a, last)
 
 
 if __name__ == "__main__":

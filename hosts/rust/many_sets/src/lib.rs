@@ -1,8 +1,9 @@
 //! Lines and sets made from a seed: sound ones, and what can be wrong with them.
 //!
 //! `run` gives the seed and the length of a run. `fields` and `lines` make what
-//! stands in one line, `damage` changes it. `sound` makes whole sets, `faults`
-//! changes them; `large` has those of full size. `questions` asks for traces.
+//! stands in one line, `damage` changes it. `sound` makes whole sets, `media` those of
+//! which a tape can be made, `faults` changes them; `large` has those of full size.
+//! `questions` asks for traces.
 
 #![forbid(unsafe_code)]
 
@@ -11,6 +12,7 @@ pub mod faults;
 pub mod fields;
 pub mod large;
 pub mod lines;
+pub mod media;
 pub mod questions;
 pub mod run;
 pub mod sound;

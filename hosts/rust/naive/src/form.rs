@@ -1,7 +1,7 @@
-//! The form of one file: 1, 2, then line by line 3, 4, 5 and 6.
+//! The form of one file: 1, 2, on tape 29, then line by line 3, 4, 5 and 6.
 
-use crate::lines::{columns, cut, Whole};
-use crate::{header, Fault, File, Line, Refusal};
+use crate::lines::{columns, cut};
+use crate::{header, Fault, File, Line, Medium, Refusal};
 
 /// A well-formed file: its header block, then its data lines as they are read.
 pub struct Form<T> {
@@ -18,14 +18,16 @@ enum Read<T> {
 impl<T> Form<T> {
     /// Reads a file whose data lines start with its letter and are read by `read`.
     pub fn of(
+        medium: Medium,
         file: File,
         bytes: &[u8],
         read: impl Fn(&Line) -> Result<T, Fault>,
     ) -> Result<Self, Refusal> {
         let mut form = Form { headers: Vec::new(), data: Vec::new() };
-        for (number, whole) in (1..).zip(cut(file, bytes)?) {
+        for (number, whole) in (1..).zip(cut(medium, file, bytes)?) {
             let header_allowed = form.data.is_empty();
-            match one(file, whole, header_allowed, &read) {
+            let line = columns(medium, whole);
+            match line.and_then(|line| one(file, line, header_allowed, &read)) {
                 Ok(Read::Header(line)) => form.headers.push(line),
                 Ok(Read::Data(data)) => form.data.push(data),
                 Err(fault) => return Err(fault.at(file, number)),
@@ -40,19 +42,18 @@ impl<T> Form<T> {
     }
 }
 
-/// One line: 3, 4, then 5 and 6.
+/// One line: 4, then 5 and 6.
 fn one<T>(
     file: File,
-    whole: &Whole,
+    line: Line,
     header_allowed: bool,
     read: impl Fn(&Line) -> Result<T, Fault>,
 ) -> Result<Read<T>, Fault> {
-    let line = columns(whole)?;
     if line[0] == b'H' && header_allowed {
-        header::read(line)?;
-        Ok(Read::Header(*line))
+        header::read(&line)?;
+        Ok(Read::Header(line))
     } else if line[0] == letter(file) {
-        read(line).map(Read::Data)
+        read(&line).map(Read::Data)
     } else {
         Err(Fault { number: 4, column: 1 })
     }

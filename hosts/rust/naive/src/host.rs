@@ -1,6 +1,16 @@
-//! Answers as the one 64-bit number that a C host gets.
+//! What a C host asks with and gets: 64-bit numbers.
 
-use crate::{Counts, File, Refusal, Trace};
+use crate::traces::placeless;
+use crate::{Counts, File, Medium, Refusal, Trace};
+
+/// The medium of a host's number; any other is 20, before all else.
+pub fn medium(number: u64) -> Result<Medium, Refusal> {
+    match number {
+        1 => Ok(Medium::Disc),
+        2 => Ok(Medium::Tape),
+        _ => Err(placeless(20)),
+    }
+}
 
 /// The number of an answer; an accepted set without traces and "none" are 0.
 pub trait HostNumber {

@@ -4,11 +4,11 @@
 //! It is written from the paper alone and shares neither code nor definitions
 //! with the proved checker. It answers every input, of any length and bytes.
 //!
-//! The way of the data: `lines` cuts a file (1 to 3), `fields` reads one field,
-//! `point`, `relation` and `header` read one line (5 and 6), `form` puts a whole
-//! file together (1 to 6), `set` compares the three files (7 to 19) and counts,
-//! `traces` answers questions of an accepted set (20 and 21). `show` and `host`
-//! stand apart.
+//! The way of the data: `lines` cuts a file (1 to 3) and `tape` gives the records of
+//! a tape in ASCII (3 and 29), `fields` reads one field, `point`, `relation` and
+//! `header` read one line (5 and 6), `form` puts a whole file together (1 to 6),
+//! `set` compares the three files (7 to 19) and counts, `traces` answers questions
+//! of an accepted set (20 and 21). `show` and `host` stand apart.
 
 #![forbid(unsafe_code)]
 
@@ -21,9 +21,10 @@ mod point;
 mod relation;
 mod set;
 mod show;
+mod tape;
 mod traces;
 
-pub use host::HostNumber;
+pub use host::{medium, HostNumber};
 pub use lines::Line;
 pub use point::{Marker, Place, Point, PointLine};
 pub use relation::Relation;
@@ -36,6 +37,18 @@ pub enum File {
     S,
     X,
 }
+
+/// What the three files of a set are written on.
+#[derive(Clone, Copy, Debug, PartialEq, Eq)]
+pub enum Medium {
+    /// Lines of 80 columns, CR and LF.
+    Disc,
+    /// Records of 80 bytes in code page 037, and one that ends them.
+    Tape,
+}
+
+/// R, S and X.
+pub type Files<'a> = [&'a [u8]; 3];
 
 /// A refusal number with its place; 20 and 21 have none.
 #[derive(Clone, Copy, Debug, PartialEq, Eq)]
@@ -81,29 +94,27 @@ fn refusal(number: u8, file: File, line: u32, column: u8) -> Refusal {
 }
 
 /// Checks a set and counts what it holds.
-pub fn check(r: &[u8], s: &[u8], x: &[u8]) -> Result<Counts, Refusal> {
-    set::read(r, s, x).map(|set| set.counts)
+pub fn check(medium: Medium, files: Files) -> Result<Counts, Refusal> {
+    set::read(medium, files).map(|set| set.counts)
 }
 
 /// From a trace to its receiver; `None` is "no trace".
 pub fn trace(
-    r: &[u8],
-    s: &[u8],
-    x: &[u8],
+    medium: Medium,
+    files: Files,
     tape: &[u8],
     record: u64,
     channel: u64,
 ) -> Result<Option<Trace>, Refusal> {
     let asked = traces::asked(tape, record)?;
     let channel = traces::within(channel, 1..=9999)?;
-    Ok(set::read(r, s, x)?.trace(asked, channel))
+    Ok(set::read(medium, files)?.trace(asked, channel))
 }
 
 /// The way back, from a line of R and a component to the channel; `None` is "no trace".
 pub fn channel(
-    r: &[u8],
-    s: &[u8],
-    x: &[u8],
+    medium: Medium,
+    files: Files,
     tape: &[u8],
     record: u64,
     r_line: u64,
@@ -112,22 +123,21 @@ pub fn channel(
     let asked = traces::asked(tape, record)?;
     let r_line = traces::within(r_line, 1..=9999)?;
     let component = traces::within(component, 1..=9)?;
-    Ok(set::read(r, s, x)?.channel(asked, r_line, component))
+    Ok(set::read(medium, files)?.channel(asked, r_line, component))
 }
 
 /// Fills the spread table of a record and returns its highest channel; a
 /// refusal writes nothing.
 pub fn spread(
-    r: &[u8],
-    s: &[u8],
-    x: &[u8],
+    medium: Medium,
+    files: Files,
     tape: &[u8],
     record: u64,
     lines: &mut [u16],
     components: &mut [u8],
 ) -> Result<u16, Refusal> {
     let asked = traces::asked(tape, record)?;
-    set::read(r, s, x)?.spread(asked, lines, components)
+    set::read(medium, files)?.spread(asked, lines, components)
 }
 
 /// Reads the 80 columns of a line of R or S to its values: rule 5. In R the

@@ -1,30 +1,45 @@
-//! Lines of 82 bytes: rules 1, 2 and 3.
+//! Lines of 82 bytes on disc, of 80 on tape: 1, 2, 29 and 3.
 
-use crate::{refusal, Fault, File, Refusal};
+use crate::{refusal, tape, Fault, File, Medium, Refusal};
+use std::iter::Take;
+use std::slice::ChunksExact;
 
 /// Columns 1 to 80 of a line.
 pub type Line = [u8; 80];
 
-/// A line with its CR and LF.
-pub type Whole = [u8; 82];
-
 const MOST_LINES: usize = 9_999;
 
-/// The lines of a file: 1, then 2.
-pub fn cut(file: File, bytes: &[u8]) -> Result<&[Whole], Refusal> {
-    let (lines, rest) = bytes.as_chunks::<82>();
-    if !rest.is_empty() {
+/// The lines of a file, the record that ends a tape left out: 1, then 2, then 29.
+pub fn cut(medium: Medium, file: File, bytes: &[u8]) -> Result<Take<ChunksExact<'_, u8>>, Refusal> {
+    let lines = bytes.chunks_exact(match medium {
+        Medium::Disc => 82,
+        Medium::Tape => 80,
+    });
+    if !lines.remainder().is_empty() {
         let line = lines.len().min(MOST_LINES) as u32 + 1;
         return Err(refusal(1, file, line, 0));
     }
     if lines.len() > MOST_LINES {
         return Err(refusal(2, file, MOST_LINES as u32 + 1, 0));
     }
-    Ok(lines)
+    let own = match medium {
+        Medium::Disc => lines.len(),
+        Medium::Tape => tape::before_end(file, lines.clone())?,
+    };
+    Ok(lines.take(own))
 }
 
-/// The 80 columns of a line: 3 names the lowest bad column of 1 to 82.
-pub fn columns(whole: &Whole) -> Result<&Line, Fault> {
+/// The 80 columns of a line in ASCII, or 3.
+pub fn columns(medium: Medium, whole: &[u8]) -> Result<Line, Fault> {
+    match medium {
+        Medium::Disc => printed(whole),
+        Medium::Tape => tape::translated(whole),
+    }
+}
+
+/// The 80 columns of a line on disc: 3 names the lowest bad column of 1 to 82.
+fn printed(whole: &[u8]) -> Result<Line, Fault> {
+    let mut line = [b' '; 80];
     for (column, &byte) in (1u8..).zip(whole) {
         let legal = match column {
             81 => byte == b'\r',
@@ -35,6 +50,6 @@ pub fn columns(whole: &Whole) -> Result<&Line, Fault> {
             return Err(Fault { number: 3, column });
         }
     }
-    let [columns @ .., _cr, _lf] = whole;
-    Ok(columns)
+    line.copy_from_slice(&whole[..80]);
+    Ok(line)
 }

@@ -1,8 +1,8 @@
 //! The three files as one set: 7 to 19 in their order, and the counts.
 
 use crate::form::Form;
-use crate::{header, point, refusal, relation};
-use crate::{Counts, Fault, File, Place, Point, PointLine, Refusal, Relation};
+use crate::{header, point, refusal, relation, tape};
+use crate::{Counts, Fault, File, Files, Medium, Place, Point, PointLine, Refusal, Relation};
 use std::collections::{HashMap, HashSet};
 
 /// An accepted set.
@@ -15,12 +15,12 @@ pub struct Set {
 }
 
 /// Reads and checks a set.
-pub fn read(r: &[u8], s: &[u8], x: &[u8]) -> Result<Set, Refusal> {
-    let r = Form::of(File::R, r, |line| point::read(File::R, line))?;
-    let s = Form::of(File::S, s, |line| point::read(File::S, line))?;
-    let x = Form::of(File::X, x, relation::read)?;
+pub fn read(medium: Medium, [r, s, x]: Files) -> Result<Set, Refusal> {
+    let r = Form::of(medium, File::R, r, |line| point::read(File::R, line))?;
+    let s = Form::of(medium, File::S, s, |line| point::read(File::S, line))?;
+    let x = Form::of(medium, File::X, x, relation::read)?;
     header::check(&r.headers, &s.headers, &x.headers)?;
-    let r_lines = receivers(&r)?;
+    let r_lines = receivers(medium, &r)?;
     let s_lines = shots(&s)?;
     let mut walk = Walk::new(&r_lines, &s_lines);
     for (line, relation) in x.numbered() {
@@ -44,15 +44,24 @@ fn points(form: &Form<PointLine>) -> impl Iterator<Item = (u32, &Point)> {
     })
 }
 
+/// A place as 10 compares it: on tape by the tape's own bytes of the name.
+fn in_order(medium: Medium, place: Place) -> Place {
+    match medium {
+        Medium::Disc => place,
+        Medium::Tape => Place { name: tape::own_bytes(place.name), ..place },
+    }
+}
+
 /// The line of each receiver; 10 holds them in ascending order.
-fn receivers(r: &Form<PointLine>) -> Result<HashMap<Place, u32>, Refusal> {
+fn receivers(medium: Medium, r: &Form<PointLine>) -> Result<HashMap<Place, u32>, Refusal> {
     let mut lines = HashMap::new();
     let mut before: Option<Place> = None;
     for (line, point) in points(r) {
-        if before.is_some_and(|before| point.place <= before) {
+        let place = in_order(medium, point.place);
+        if before.is_some_and(|before| place <= before) {
             return Err(refusal(10, File::R, line, 2));
         }
-        before = Some(point.place);
+        before = Some(place);
         lines.insert(point.place, line);
     }
     Ok(lines)

@@ -8,7 +8,7 @@ use std::ops::RangeInclusive;
 pub type Asked = ([u8; 6], u16);
 
 /// 20 and 21 have no place.
-fn placeless(number: u8) -> Refusal {
+pub fn placeless(number: u8) -> Refusal {
     Refusal { number, file: None, line: 0, column: 0 }
 }
 

@@ -48,5 +48,5 @@ macro_rules! sections {
 
 sections! {
     paper files headers points markers relations order records covers questions pairs_of_form
-    pairs_of_set answers
+    pairs_of_set answers tapes
 }

@@ -6,7 +6,8 @@ use crate::table::write::{accepted, as_a, refused};
 use crate::File::{R, S, X};
 use crate::{headers_only, set_a, Answer, Set};
 
-/// A folder `examples/NAME` with `set.r01`, `set.s01`, `set.x01` and `verdict`.
+/// A folder `examples/NAME` with `set.r01`, `set.s01`, `set.x01` and `verdict`; the names
+/// of those that hold tapes end in `_tape`.
 pub struct Example {
     pub name: &'static str,
     pub set: Set,
@@ -33,6 +34,7 @@ pub fn examples() -> Vec<Example> {
     };
     vec![
         example("set_a", set_a(), as_a()),
+        example("set_a_tape", set_a().on_tape().expect("characters of a tape"), as_a()),
         example("three_components", paper::three_components(), accepted(3, 1, 1, 9)),
         example("headers_only", headers_only(), accepted(0, 0, 0, 0)),
         example("moved_name", paper::moved_name(), refused(5, X, first(), 14)),

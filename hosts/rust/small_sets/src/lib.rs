@@ -15,11 +15,12 @@ pub mod place;
 mod random;
 mod set;
 mod table;
+pub mod tape;
 
 pub use case::{Answer, Case, Question, STAYS};
 pub use examples::{examples, Example};
-pub use folders::{folders, one_fault, two_faults, Folder, OneFault, TwoFaults};
+pub use folders::{folders, one_fault, tape_folders, two_faults, Folder, OneFault, TwoFaults};
 pub use line::{header, marker, receiver, relation, shot, Line};
 pub use random::Random;
-pub use set::{headers_only, set_a, File, Set};
+pub use set::{headers_only, set_a, File, Medium, Set};
 pub use table::{table, Section, SECTIONS};

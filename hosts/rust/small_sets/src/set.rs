@@ -1,7 +1,41 @@
 //! Set A, and edits that give another set.
 
 use crate::line::{header, receiver, relation, shot, Line};
+use crate::tape;
 use File::{R, S, X};
+
+/// What a set is written on; its number is the one that a C host gives.
+#[derive(Clone, Copy, Debug, Default, PartialEq, Eq)]
+pub enum Medium {
+    #[default]
+    Disc = 1,
+    Tape = 2,
+}
+
+impl Medium {
+    /// The bytes of a line.
+    pub fn width(self) -> usize {
+        match self {
+            Medium::Disc => 82,
+            Medium::Tape => 80,
+        }
+    }
+
+    /// What ends each line.
+    fn line_end(self) -> &'static [u8] {
+        match self {
+            Medium::Disc => b"\r\n",
+            Medium::Tape => b"",
+        }
+    }
+
+    fn blank(self) -> u8 {
+        match self {
+            Medium::Disc => b' ',
+            Medium::Tape => tape::byte_of(b' ').expect("a character of a tape"),
+        }
+    }
+}
 
 /// One of the three files; its number is the one that a C host gets.
 #[derive(Clone, Copy, Debug, PartialEq, Eq)]
@@ -23,9 +57,10 @@ impl File {
     }
 }
 
-/// The bytes of the three files.
+/// The bytes of the three files, in the form of their medium.
 #[derive(Clone, Debug, Default, PartialEq, Eq)]
 pub struct Set {
+    pub medium: Medium,
     pub r: Vec<u8>,
     pub s: Vec<u8>,
     pub x: Vec<u8>,
@@ -45,7 +80,8 @@ pub fn set_a() -> Set {
     headers_only().add_all(R, [101, 102, 103].map(receiver)).add(S, shot(501)).add(X, relation())
 }
 
-/// Lines and columns count from 1. An edit outside the file is a fault of the table.
+/// Lines and columns count from 1, and hold the medium's own bytes. An edit outside the
+/// file is a fault of the table.
 impl Set {
     pub fn file(&self, file: File) -> &[u8] {
         match file {
@@ -63,20 +99,30 @@ impl Set {
         }
     }
 
+    /// R, S and X.
+    pub fn files(&self) -> [&[u8]; 3] {
+        File::ALL.map(|file| self.file(file))
+    }
+
     /// The number of whole lines of a file.
     pub fn lines(&self, file: File) -> usize {
-        self.file(file).len() / 82
+        self.file(file).len() / self.medium.width()
+    }
+
+    /// Where a line starts.
+    pub fn start(&self, line: usize) -> usize {
+        (line - 1) * self.medium.width()
     }
 
     /// The columns of a line.
     pub fn line(&self, file: File, line: usize) -> Line {
-        let columns = &self.file(file)[(line - 1) * 82..];
+        let columns = &self.file(file)[self.start(line)..];
         Line(std::array::from_fn(|at| columns[at]))
     }
 
     /// A line changed as a whole.
     pub fn edit(mut self, file: File, line: usize, change: impl FnOnce(Line) -> Line) -> Set {
-        let start = (line - 1) * 82;
+        let start = self.start(line);
         let Line(after) = change(self.line(file, line));
         self.file_mut(file)[start..start + 80].copy_from_slice(&after);
         self
@@ -87,16 +133,17 @@ impl Set {
         self.edit(file, line, |columns| columns.at(column, text))
     }
 
-    /// One byte at a column of 1 to 82.
+    /// One byte at a column, on disc of 1 to 82.
     pub fn byte(mut self, file: File, line: usize, column: usize, byte: u8) -> Set {
-        self.file_mut(file)[(line - 1) * 82 + column - 1] = byte;
+        let start = self.start(line);
+        self.file_mut(file)[start + column - 1] = byte;
         self
     }
 
     /// A line put in as number `line`; those from there on move down.
     pub fn insert(mut self, file: File, line: usize, text: Line) -> Set {
-        let start = (line - 1) * 82;
-        let bytes = text.0.into_iter().chain(*b"\r\n");
+        let start = self.start(line);
+        let bytes = text.0.into_iter().chain(self.medium.line_end().iter().copied());
         self.file_mut(file).splice(start..start, bytes);
         self
     }
@@ -113,7 +160,8 @@ impl Set {
 
     /// A line taken out; those below move up.
     pub fn remove(mut self, file: File, line: usize) -> Set {
-        self.file_mut(file).drain((line - 1) * 82..line * 82);
+        let lines = self.start(line)..self.start(line + 1);
+        self.file_mut(file).drain(lines);
         self
     }
 
@@ -126,7 +174,8 @@ impl Set {
     /// Blanks after the end of a file.
     pub fn over(mut self, file: File, bytes: usize) -> Set {
         let end = self.file(file).len() + bytes;
-        self.file_mut(file).resize(end, b' ');
+        let blank = self.medium.blank();
+        self.file_mut(file).resize(end, blank);
         self
     }
 

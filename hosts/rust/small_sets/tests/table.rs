@@ -23,10 +23,10 @@ fn every_refusal_is_asked_for() {
         .collect();
     numbers.sort_unstable();
     numbers.dedup();
-    assert_eq!(numbers, (1..=21).collect::<Vec<u8>>());
+    assert!(numbers.into_iter().eq((1..=21).chain([29])));
 }
 
-/// The program has a line for every case of the set check.
+/// Every case of the set check has a line.
 #[test]
 fn checks_have_verdicts() {
     for case in table() {

@@ -1,7 +1,8 @@
 //! How long the proved set check takes beside the naive reader: on surveys of 100,
 //! 1,000 and 9,999 lines a file, made by `many_sets` from a fixed seed, then on large
-//! sets and on those made to take long. Both give the same answer at each turn. How the
-//! times grow, and whether they keep the limits, comes last. The tables are Markdown.
+//! sets, one of them on tape too, and on those made to take long. Both give the same
+//! answer at each turn. How the times grow, and whether they keep the limits, comes last.
+//! The tables are Markdown.
 //!
 //! `cargo bench -p sps --bench check -- WORDS` runs the sets that have the words in
 //! their names.
@@ -9,6 +10,8 @@
 #[allow(dead_code)]
 #[path = "../tests/sets/answers.rs"]
 mod answers;
+#[path = "../tests/common/wrapped.rs"]
+mod wrapped;
 
 use answers::{naive, proved, Answer};
 use many_sets::large::{measured, COMMON, FULL, SEEDED};

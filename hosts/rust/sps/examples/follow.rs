@@ -2,7 +2,7 @@
 //!
 //!     cargo run --example follow -- ../../examples/three_components 6
 
-use sps::Set;
+use sps::{Medium, Set};
 use std::{env, error::Error, fs, path::PathBuf};
 
 fn main() -> Result<(), Box<dyn Error>> {
@@ -15,7 +15,7 @@ fn main() -> Result<(), Box<dyn Error>> {
     let x = fs::read(folder.join("set.x01"))?;
 
     // Tape 100 with its blanks, record 11.
-    let record = Set::new(&r, &s, &x).record(b"100   ", 11);
+    let record = Set::new(Medium::Disc, &r, &s, &x).record(b"100   ", 11);
     let Some(trace) = record.channel(channel)? else {
         println!("channel {channel}: no trace");
         return Ok(());

@@ -2,7 +2,7 @@
 //!
 //!     cargo run --example spread -- ../../examples/three_components
 
-use sps::Set;
+use sps::{Medium, Set};
 use std::{env, error::Error, fs, path::PathBuf};
 
 fn main() -> Result<(), Box<dyn Error>> {
@@ -13,7 +13,7 @@ fn main() -> Result<(), Box<dyn Error>> {
 
     // Room for every channel that there can be.
     let (mut lines, mut components) = ([0; 9_999], [0; 9_999]);
-    let record = Set::new(&r, &s, &x).record(b"100   ", 11);
+    let record = Set::new(Medium::Disc, &r, &s, &x).record(b"100   ", 11);
     let highest = record.spread(&mut lines, &mut components)?;
 
     println!("highest channel {highest}");

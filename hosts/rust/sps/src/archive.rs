@@ -6,12 +6,19 @@
 //! no other memory, and keep no pointer.
 #![allow(unsafe_code)]
 
-/// R, S and X.
-pub type Files<'a> = [&'a [u8]; 3];
+/// R, S and X, and the number of their medium.
+#[derive(Clone, Copy)]
+pub struct Files<'a> {
+    pub medium: u64,
+    pub r: &'a [u8],
+    pub s: &'a [u8],
+    pub x: &'a [u8],
+}
 
 mod c {
     unsafe extern "C" {
         pub fn sps_check(
+            medium: u64,
             r: *const u8,
             r_len: usize,
             s: *const u8,
@@ -20,6 +27,7 @@ mod c {
             x_len: usize,
         ) -> u64;
         pub fn sps_counts(
+            medium: u64,
             r: *const u8,
             r_len: usize,
             s: *const u8,
@@ -30,6 +38,7 @@ mod c {
             counts_len: usize,
         ) -> u64;
         pub fn sps_trace(
+            medium: u64,
             r: *const u8,
             r_len: usize,
             s: *const u8,
@@ -42,6 +51,7 @@ mod c {
             channel: u64,
         ) -> u64;
         pub fn sps_channel(
+            medium: u64,
             r: *const u8,
             r_len: usize,
             s: *const u8,
@@ -55,6 +65,7 @@ mod c {
             component: u64,
         ) -> u64;
         pub fn sps_spread(
+            medium: u64,
             r: *const u8,
             r_len: usize,
             s: *const u8,
@@ -72,16 +83,17 @@ mod c {
     }
 }
 
-pub fn check([r, s, x]: Files) -> u64 {
+pub fn check(Files { medium, r, s, x }: Files) -> u64 {
     // SAFETY: each pointer and length are those of one slice.
-    unsafe { c::sps_check(r.as_ptr(), r.len(), s.as_ptr(), s.len(), x.as_ptr(), x.len()) }
+    unsafe { c::sps_check(medium, r.as_ptr(), r.len(), s.as_ptr(), s.len(), x.as_ptr(), x.len()) }
 }
 
-pub fn counts([r, s, x]: Files, counts: &mut [u8]) -> u64 {
+pub fn counts(Files { medium, r, s, x }: Files, counts: &mut [u8]) -> u64 {
     // SAFETY: each pointer and length are those of one slice, and the one that is
     // written is lent alone.
     unsafe {
         c::sps_counts(
+            medium,
             r.as_ptr(),
             r.len(),
             s.as_ptr(),
@@ -94,10 +106,11 @@ pub fn counts([r, s, x]: Files, counts: &mut [u8]) -> u64 {
     }
 }
 
-pub fn trace([r, s, x]: Files, tape: &[u8], record: u64, channel: u64) -> u64 {
+pub fn trace(Files { medium, r, s, x }: Files, tape: &[u8], record: u64, channel: u64) -> u64 {
     // SAFETY: each pointer and length are those of one slice.
     unsafe {
         c::sps_trace(
+            medium,
             r.as_ptr(),
             r.len(),
             s.as_ptr(),
@@ -112,10 +125,17 @@ pub fn trace([r, s, x]: Files, tape: &[u8], record: u64, channel: u64) -> u64 {
     }
 }
 
-pub fn channel([r, s, x]: Files, tape: &[u8], record: u64, r_line: u64, component: u64) -> u64 {
+pub fn channel(
+    Files { medium, r, s, x }: Files,
+    tape: &[u8],
+    record: u64,
+    r_line: u64,
+    component: u64,
+) -> u64 {
     // SAFETY: each pointer and length are those of one slice.
     unsafe {
         c::sps_channel(
+            medium,
             r.as_ptr(),
             r.len(),
             s.as_ptr(),
@@ -132,7 +152,7 @@ pub fn channel([r, s, x]: Files, tape: &[u8], record: u64, r_line: u64, componen
 }
 
 pub fn spread(
-    [r, s, x]: Files,
+    Files { medium, r, s, x }: Files,
     tape: &[u8],
     record: u64,
     lines: &mut [u8],
@@ -142,6 +162,7 @@ pub fn spread(
     // are written are lent alone.
     unsafe {
         c::sps_spread(
+            medium,
             r.as_ptr(),
             r.len(),
             s.as_ptr(),

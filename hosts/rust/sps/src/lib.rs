@@ -1,14 +1,14 @@
 //! The proved checker of SPS sets, for Rust.
 //!
 //! An SPS set is three files: receivers R, shots S and relations X, lines of 80
-//! columns. [`Set::check`] accepts a set with its counts, or refuses it with the
-//! first breach of the paper's rules. [`Set::record`] asks where the traces of a
-//! record come from.
+//! columns, on disc or on tape ([`Medium`]). [`Set::check`] accepts a set with its
+//! counts, or refuses it with the first breach of the paper's rules. [`Set::record`]
+//! asks where the traces of a record come from.
 //!
 //! ```
 //! # let read = |name| std::fs::read(format!("../../../examples/set_a/{name}"));
 //! # let (r, s, x) = (read("set.r01")?, read("set.s01")?, read("set.x01")?);
-//! let set = sps::Set::new(&r, &s, &x);
+//! let set = sps::Set::new(sps::Medium::Disc, &r, &s, &x);
 //! assert_eq!(set.check()?.to_string(), "ACCEPTED 3 1 1 3");
 //!
 //! let record = set.record(b"100   ", 11);
@@ -28,11 +28,13 @@
 #![warn(missing_docs)]
 
 mod archive;
+mod medium;
 mod number;
 mod record;
 mod refusal;
 mod set;
 
+pub use medium::Medium;
 pub use number::Number;
 pub use record::{Record, Trace};
 pub use refusal::{File, Refusal};

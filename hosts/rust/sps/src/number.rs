@@ -14,11 +14,11 @@ use std::fmt;
 #[derive(Clone, Copy, Debug, PartialEq, Eq, Hash)]
 #[non_exhaustive]
 pub enum Number {
-    /// 1: the file's length is no multiple of 82.
+    /// 1: the file's length is no multiple of 82, on tape of 80.
     FileLength,
-    /// 2: more than 9,999 lines.
+    /// 2: more than 9,999 lines, on tape with the EOF record.
     TooManyLines,
-    /// 3: a byte outside its range, or no CR or LF at 81, 82.
+    /// 3: a byte that is not taken, or no CR or LF at 81, 82 of a disc.
     Byte,
     /// 4: column 1 is not H or the file's letter, or H stands after data.
     Letter,
@@ -33,7 +33,7 @@ pub enum Number {
     H18,
     /// 9: the header of S or X differs from R's.
     HeaderDiffers,
-    /// 10: a receiver is not above the one before it.
+    /// 10: a receiver is not above the one before it, in the medium's own bytes.
     ReceiverOrder,
     /// 11: a shot is earlier than the one before it.
     ShotEarlier,
@@ -53,10 +53,12 @@ pub enum Number {
     NoReceiver,
     /// 19: a receiver is covered twice in a record.
     CoveredTwice,
-    /// 20: a question is out of range.
+    /// 20: a question is out of range, or the medium is neither disc nor tape.
     QuestionRange,
     /// 21: a slice of the spread table is too short.
     SliceLength,
+    /// 29: no EOF record ends the tape, or records follow the first.
+    TapeEnd,
     /// No number of the paper; the calls are proved to give none.
     Unknown(u64),
 }
@@ -64,13 +66,13 @@ pub enum Number {
 use Number::*;
 
 impl Number {
-    /// The numbers of the paper, 1 to 21.
+    /// The numbers of the paper, 1 to 21 and 29.
     ///
     /// ```
     /// # use sps::Number;
-    /// assert!(Number::ALL.iter().map(|number| number.code()).eq(1..=21));
+    /// assert!(Number::ALL.iter().map(|number| number.code()).eq((1..=21).chain([29])));
     /// ```
-    pub const ALL: [Number; 21] = [
+    pub const ALL: [Number; 22] = [
         FileLength,
         TooManyLines,
         Byte,
@@ -92,6 +94,7 @@ impl Number {
         CoveredTwice,
         QuestionRange,
         SliceLength,
+        TapeEnd,
     ];
 
     /// The number as the paper has it.
@@ -123,6 +126,7 @@ impl Number {
             CoveredTwice => 19,
             QuestionRange => 20,
             SliceLength => 21,
+            TapeEnd => 29,
             Unknown(code) => code,
         }
     }
@@ -143,12 +147,16 @@ impl Number {
     fn words(self) -> &'static str {
         match self {
             FileLength => {
-                "the length of the file is no multiple of 82 bytes: 80 columns, CR and LF a line"
+                "the length of the file is no multiple of a line's: 82 bytes on disc, with CR and \
+                 LF, 80 on tape"
             }
-            TooManyLines => "the file has more than 9,999 lines",
+            TooManyLines => {
+                "the file has more than 9,999 lines; on tape the EOF record is one of them"
+            }
             Byte => {
-                "a byte is outside its range: 32 to 126 in columns 1 to 80, \
-                 CR in column 81, LF in column 82"
+                "a byte is outside its range: on disc 32 to 126 in columns 1 to 80, CR in column \
+                 81, LF in column 82; on tape, in code page 037, a blank, a letter, a digit or one \
+                 of . , ; : ( ) - + / & ' % * = ? _ < >"
             }
             Letter => "column 1 is not H or the file's own letter, or an H line stands after data",
             Field => "a field breaks its rule",
@@ -162,7 +170,7 @@ impl Number {
             HeaderDiffers => "the header differs from that of R",
             ReceiverOrder => {
                 "a receiver is not above the receiver line before it, by line name, point number \
-                 and index"
+                 and index; on tape letters come before digits"
             }
             ShotEarlier => "a shot is earlier, by day then time, than the shot line before it",
             ShotRepeated => "a shot repeats an earlier shot's line name, point number and index",
@@ -184,11 +192,12 @@ impl Number {
                 "a covered receiver is covered by an earlier line of the same tape and record"
             }
             QuestionRange => {
-                "the question is out of range: a tape is 6 columns of bytes 32 to 126 that start \
-                 with a non-blank, a record is at most 9999, a channel and an R line are 1 to 9999, \
-                 a component is 1 to 9"
+                "the question is out of range: a medium is disc or tape, a tape name is 6 columns \
+                 of bytes 32 to 126 that start with a non-blank, a record is at most 9999, \
+                 a channel and an R line are 1 to 9999, a component is 1 to 9"
             }
             SliceLength => "a slice of the spread table is shorter than the record's highest channel",
+            TapeEnd => "no EOF record ends the tape, or records follow the first one",
             Unknown(_) => "no number of the paper",
         }
     }

@@ -5,12 +5,12 @@ use crate::refusal::answer;
 use crate::Refusal;
 
 /// A record of a set. Each of its questions checks the set itself: a question out of
-/// range is refused first (20), then the set (1 to 19).
+/// range is refused first (20), then the set (1 to 19 and 29).
 ///
 /// ```
 /// # let read = |name| std::fs::read(format!("../../../examples/set_a/{name}"));
 /// # let (r, s, x) = (read("set.r01")?, read("set.s01")?, read("set.x01")?);
-/// let record = sps::Set::new(&r, &s, &x).record(b"100   ", 11);
+/// let record = sps::Set::new(sps::Medium::Disc, &r, &s, &x).record(b"100   ", 11);
 /// assert_eq!(record.channel(0).unwrap_err().number, sps::Number::QuestionRange);
 /// # Ok::<(), std::io::Error>(())
 /// ```
@@ -45,7 +45,7 @@ impl<'a> Record<'a> {
     /// ```
     /// # let read = |name| std::fs::read(format!("../../../examples/three_components/{name}"));
     /// # let (r, s, x) = (read("set.r01")?, read("set.s01")?, read("set.x01")?);
-    /// let record = sps::Set::new(&r, &s, &x).record(b"100   ", 11);
+    /// let record = sps::Set::new(sps::Medium::Disc, &r, &s, &x).record(b"100   ", 11);
     /// assert_eq!(record.channel(6)?, Some(sps::Trace { r_line: 23, component: 3 }));
     /// assert_eq!(record.channel(10)?, None);
     /// # Ok::<(), Box<dyn std::error::Error>>(())
@@ -56,12 +56,12 @@ impl<'a> Record<'a> {
     }
 
     /// The channel that leads to a line of R and a component; `None` is no trace,
-    /// also where the line is a header, a marker or beyond the file.
+    /// also where the line is a header, a marker, an EOF record or beyond the file.
     ///
     /// ```
     /// # let read = |name| std::fs::read(format!("../../../examples/three_components/{name}"));
     /// # let (r, s, x) = (read("set.r01")?, read("set.s01")?, read("set.x01")?);
-    /// let record = sps::Set::new(&r, &s, &x).record(b"100   ", 11);
+    /// let record = sps::Set::new(sps::Medium::Disc, &r, &s, &x).record(b"100   ", 11);
     /// assert_eq!(record.receiver(23, 3)?, Some(6));
     /// assert_eq!(record.receiver(1, 1)?, None);
     /// # Ok::<(), Box<dyn std::error::Error>>(())
@@ -80,7 +80,7 @@ impl<'a> Record<'a> {
     /// ```
     /// # let read = |name| std::fs::read(format!("../../../examples/set_a/{name}"));
     /// # let (r, s, x) = (read("set.r01")?, read("set.s01")?, read("set.x01")?);
-    /// let record = sps::Set::new(&r, &s, &x).record(b"100   ", 11);
+    /// let record = sps::Set::new(sps::Medium::Disc, &r, &s, &x).record(b"100   ", 11);
     /// let (mut lines, mut components) = ([9; 4], [9; 4]);
     /// assert_eq!(record.spread(&mut lines, &mut components)?, 3);
     /// assert_eq!((lines, components), ([22, 23, 24, 9], [1, 1, 1, 9]));
@@ -99,7 +99,7 @@ impl<'a> Record<'a> {
     /// ```
     /// # let read = |name| std::fs::read(format!("../../../examples/set_a/{name}"));
     /// # let (r, s, x) = (read("set.r01")?, read("set.s01")?, read("set.x01")?);
-    /// let record = sps::Set::new(&r, &s, &x).record(b"100   ", 11);
+    /// let record = sps::Set::new(sps::Medium::Disc, &r, &s, &x).record(b"100   ", 11);
     /// let (mut lines, mut components) = ([9; 7], [9; 3]);
     /// assert_eq!(record.spread_bytes(&mut lines, &mut components)?, 3);
     /// assert_eq!((lines, components), ([22, 0, 23, 0, 24, 0, 9], [1, 1, 1]));

@@ -23,8 +23,8 @@ pub enum File {
 /// The first breach of a rule. Shown, it is the verdict line of the program.
 ///
 /// ```
-/// # use sps::{File, Number, Refusal, Set};
-/// let refusal = Set::new(b"", b"", b"").check().unwrap_err();
+/// # use sps::{File, Medium, Number, Refusal, Set};
+/// let refusal = Set::new(Medium::Disc, b"", b"", b"").check().unwrap_err();
 /// let Refusal { number, file, line, column } = refusal;
 /// assert_eq!((number, file, line, column), (Number::HeaderType, Some(File::R), 1, 0));
 /// assert_eq!(refusal.to_string(), "REFUSED 7 R 1 0");

@@ -2,15 +2,15 @@
 
 use crate::archive::{self, Files};
 use crate::refusal::answer;
-use crate::{Record, Refusal};
+use crate::{Medium, Record, Refusal};
 use std::fmt;
 
-/// Three lent files, not checked yet.
+/// Three lent files on a medium, not checked yet.
 ///
 /// ```
 /// # let read = |name| std::fs::read(format!("../../../examples/odd_channel/{name}"));
 /// # let (r, s, x) = (read("set.r01")?, read("set.s01")?, read("set.x01")?);
-/// let set = sps::Set::new(&r, &s, &x);
+/// let set = sps::Set::new(sps::Medium::Disc, &r, &s, &x);
 /// match set.check() {
 ///     Ok(accepted) => println!("{} traces", accepted.traces),
 ///     Err(refusal) => println!("{refusal}: {}", refusal.number),
@@ -45,20 +45,22 @@ impl<'a> Set<'a> {
     /// A set of three files, R, S and X, of any bytes.
     ///
     /// ```
-    /// assert!(sps::Set::new(b"", b"", b"").check().is_err());
+    /// assert!(sps::Set::new(sps::Medium::Tape, b"", b"", b"").check().is_err());
     /// ```
-    pub fn new(r: &'a [u8], s: &'a [u8], x: &'a [u8]) -> Set<'a> {
-        Set { files: [r, s, x] }
+    pub fn new(medium: Medium, r: &'a [u8], s: &'a [u8], x: &'a [u8]) -> Set<'a> {
+        Set { files: Files { medium: medium.number(), r, s, x } }
     }
 
-    /// Checks the set: what it holds, or the first breach of the rules 1 to 19.
+    /// Checks the set: what it holds, or the first breach of the rules 1 to 19 and, on
+    /// tape, 29.
     ///
     /// ```
     /// # let read = |name| std::fs::read(format!("../../../examples/set_a/{name}"));
     /// # let (r, s, x) = (read("set.r01")?, read("set.s01")?, read("set.x01")?);
-    /// let accepted = sps::Set::new(&r, &s, &x).check()?;
+    /// # use sps::{Medium::Disc, Set};
+    /// let accepted = Set::new(Disc, &r, &s, &x).check()?;
     /// assert_eq!((accepted.receivers, accepted.traces), (3, 3));
-    /// let refusal = sps::Set::new(&r, &s, &r).check().unwrap_err();
+    /// let refusal = Set::new(Disc, &r, &s, &r).check().unwrap_err();
     /// assert_eq!(refusal.to_string(), "REFUSED 4 X 22 1");
     /// # Ok::<(), Box<dyn std::error::Error>>(())
     /// ```
@@ -74,20 +76,20 @@ impl<'a> Set<'a> {
     /// ```
     /// # let read = |name| std::fs::read(format!("../../../examples/three_components/{name}"));
     /// # let (r, s, x) = (read("set.r01")?, read("set.s01")?, read("set.x01")?);
-    /// assert_eq!(sps::Set::new(&r, &s, &x).traces()?, 9);
+    /// assert_eq!(sps::Set::new(sps::Medium::Disc, &r, &s, &x).traces()?, 9);
     /// # Ok::<(), Box<dyn std::error::Error>>(())
     /// ```
     pub fn traces(&self) -> Result<u64, Refusal> {
         answer(archive::check(self.files))
     }
 
-    /// The record of a tape, to ask questions of. The tape is six columns, blanks
-    /// included. Nothing is checked yet.
+    /// The record of a tape, to ask questions of. The tape is six columns of ASCII,
+    /// blanks included, on either medium. Nothing is checked yet.
     ///
     /// ```
     /// # let read = |name| std::fs::read(format!("../../../examples/set_a/{name}"));
     /// # let (r, s, x) = (read("set.r01")?, read("set.s01")?, read("set.x01")?);
-    /// # let set = sps::Set::new(&r, &s, &x);
+    /// # let set = sps::Set::new(sps::Medium::Disc, &r, &s, &x);
     /// assert!(set.record(b"100   ", 11).channel(1)?.is_some());
     /// assert!(set.record(b"100   ", 12).channel(1)?.is_none());
     /// # Ok::<(), Box<dyn std::error::Error>>(())

@@ -17,8 +17,13 @@ fn root() -> PathBuf {
     Path::new(env!("CARGO_MANIFEST_DIR")).join("../../..")
 }
 
+/// Set A on disc, and on tape.
 fn set_a() -> PathBuf {
     root().join("examples/set_a")
+}
+
+fn set_a_tape() -> PathBuf {
+    root().join("examples/set_a_tape")
 }
 
 /// A place below cargo's directory for tests.
@@ -73,7 +78,7 @@ fn compiled(compiler: &str, standard: &str, source: &str, name: &str) -> PathBuf
 
 #[test]
 fn c() {
-    run(compiled("cc", "-std=c99", "calls.c", "calls_c"), &[&set_a()]);
+    run(compiled("cc", "-std=c99", "calls.c", "calls_c"), &[&set_a(), &set_a_tape()]);
 }
 
 #[test]
@@ -90,7 +95,7 @@ fn c_example() {
 
 #[test]
 fn cpp() {
-    run(compiled("c++", "-std=c++11", "calls.cpp", "calls_cpp"), &[&set_a()]);
+    run(compiled("c++", "-std=c++11", "calls.cpp", "calls_cpp"), &[&set_a(), &set_a_tape()]);
 }
 
 /// No byte is read or written that is not lent, and none is read before it is written.
@@ -98,7 +103,7 @@ fn cpp() {
 fn c_under_valgrind() {
     let calls = compiled("cc", "-std=c99", "calls.c", "calls_valgrind");
     let strict = ["--quiet", "--error-exitcode=9", "--leak-check=full"];
-    run("valgrind", &[&strict[0], &strict[1], &strict[2], &calls, &set_a()]);
+    run("valgrind", &[&strict[0], &strict[1], &strict[2], &calls, &set_a(), &set_a_tape()]);
 }
 
 /// The archive is made into a shared object.
@@ -107,25 +112,26 @@ fn python() {
     let shared = place("libsps.so");
     let whole = format!("-Wl,--whole-archive,{ARCHIVE},--no-whole-archive");
     run("cc", &[&"-shared", &"-Wl,-z,defs", &"-Wl,-z,text", &whole, &"-o", &shared]);
-    run("python3", &[&root().join("hosts/python/calls.py"), &shared, &set_a()]);
+    run("python3", &[&root().join("hosts/python/calls.py"), &shared, &set_a(), &set_a_tape()]);
 }
 
 /// What the naive reader answers to each call of `stack.c`, as it is printed.
 fn answers(set: &Set, record: u32) -> String {
-    let (Set { r, s, x }, tape, record) = (set, b"100   ", record.into());
+    let (tape, record) = (b"100   ", record.into());
+    let medium = naive::medium(set.medium as u64).expect("a medium");
+    let files = set.files();
     let (mut lines, mut components) = ([0; 9_999], [0; 9_999]);
-    let checked = naive::check(r, s, x).host_number();
-    let trace = naive::trace(r, s, x, tape, record, 200).host_number();
-    let channel = naive::channel(r, s, x, tape, record, 9_999, 1).host_number();
-    let spread = naive::spread(r, s, x, tape, record, &mut lines, &mut components).host_number();
+    let checked = naive::check(medium, files).host_number();
+    let trace = naive::trace(medium, files, tape, record, 200).host_number();
+    let channel = naive::channel(medium, files, tape, record, 9_999, 1).host_number();
+    let spread =
+        naive::spread(medium, files, tape, record, &mut lines, &mut components).host_number();
     format!("{checked} {checked} {trace} {channel} {spread}\n")
 }
 
-/// Every call on a stack of the size that `stack.c` has, on sets of 9,999 lines a file
-/// that differ in what has to be sorted and searched.
-#[test]
-fn c_with_a_small_stack() {
-    let stack = compiled("cc", "-std=c99", "stack.c", "stack");
+/// Sets of 9,999 lines a file that differ in what has to be sorted and searched, with a
+/// record of each.
+fn large_sets() -> Vec<(&'static str, Set, u32)> {
     let (accepted, last_record) = (two_million_traces(), most() - 1);
     let traces = 200 * most();
     let found = format!("{traces} {traces} {} 200 200\n", 9_999 * 16 + 1);
@@ -134,17 +140,30 @@ fn c_with_a_small_stack() {
     let mut sets = vec![("accepted", accepted, last_record), ("refused", refused, last_record)];
     for (name, make) in HOSTILE {
         match name {
-            "one record shuffled" => sets.push((name, make(FULL), 11)),
+            "one record shuffled" => {
+                // A tape has room for one line less.
+                let tape = make(FULL - 1).on_tape().expect("characters of a tape");
+                sets.extend([(name, make(FULL), 11), ("one record shuffled on tape", tape, 11)]);
+            }
             "nine indices in turn" | "records of 129 lines" | "all shuffled" => {
                 sets.push((name, make(FULL), 8));
             }
             _ => {}
         }
     }
-    assert_eq!(sets.len(), 6);
+    sets
+}
+
+/// Every call on a stack of the size that `stack.c` has.
+#[test]
+fn c_with_a_small_stack() {
+    let stack = compiled("cc", "-std=c99", "stack.c", "stack");
+    let sets = large_sets();
+    assert_eq!(sets.len(), 7);
     for (name, set, record) in sets {
         let folder = written(&name.replace(' ', "_"), &set);
-        let printed = run(&stack, &[&folder, &record.to_string()]);
+        let medium = (set.medium as u64).to_string();
+        let printed = run(&stack, &[&medium, &folder, &record.to_string()]);
         assert_eq!(printed, answers(&set, record), "{name}");
     }
 }

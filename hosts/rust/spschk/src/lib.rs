@@ -1,9 +1,9 @@
-//! What the program prints, by the naive reader, and what the program `cases`
-//! is run on and has to write.
+//! What the program prints of a set, by the naive reader, and what the program
+//! `cases` is run on and has to write.
 
 #![forbid(unsafe_code)]
 
-use small_sets::{folders, Set};
+use small_sets::{folders, tape_folders, Medium, Set};
 use std::path::{Path, PathBuf};
 
 /// The top of the repository.
@@ -13,7 +13,11 @@ pub fn root() -> PathBuf {
 
 /// The program's line for a set, with its line feed.
 pub fn line(set: &Set) -> String {
-    match naive::check(&set.r, &set.s, &set.x) {
+    let medium = match set.medium {
+        Medium::Disc => naive::Medium::Disc,
+        Medium::Tape => naive::Medium::Tape,
+    };
+    match naive::check(medium, set.files()) {
         Ok(counts) => format!(
             "ACCEPTED {} {} {} {}\n",
             counts.receivers, counts.shots, counts.relations, counts.traces
@@ -25,15 +29,17 @@ pub fn line(set: &Set) -> String {
     }
 }
 
-/// The files of `crates/cases/data` by path: the folders' names, and three files
-/// for each.
+/// The files of `crates/cases/data` by path: the names of the folders, those of disc
+/// files and those of tapes, and three files for each.
 pub fn data() -> Vec<(PathBuf, Vec<u8>)> {
-    let folders = folders();
-    let names: String = folders.iter().map(|folder| format!("{}\n", folder.name)).collect();
-    let mut files = vec![(PathBuf::from("names"), names.into_bytes())];
-    for folder in &folders {
-        for (name, bytes) in folder.files() {
-            files.push((Path::new(&folder.name).join(name), bytes.to_vec()));
+    let mut files = Vec::new();
+    for (list, folders) in [("names", folders()), ("tapes", tape_folders())] {
+        let names: String = folders.iter().map(|folder| format!("{}\n", folder.name)).collect();
+        files.push((PathBuf::from(list), names.into_bytes()));
+        for folder in &folders {
+            for (name, bytes) in folder.files() {
+                files.push((Path::new(&folder.name).join(name), bytes.to_vec()));
+            }
         }
     }
     files
@@ -41,5 +47,6 @@ pub fn data() -> Vec<(PathBuf, Vec<u8>)> {
 
 /// What the program `cases` has to write.
 pub fn stdout() -> String {
-    folders().iter().map(|folder| format!("{} {}", folder.name, line(&folder.set))).collect()
+    let folders = folders().into_iter().chain(tape_folders());
+    folders.map(|folder| format!("{} {}", folder.name, line(&folder.set))).collect()
 }

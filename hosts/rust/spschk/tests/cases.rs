@@ -1,5 +1,6 @@
 //! The folders of `crates/cases` against their builder and the naive reader.
 
+use naive::Medium;
 use small_sets::{one_fault, set_a, two_faults, File, Set};
 use std::collections::BTreeSet;
 use std::fs;
@@ -54,7 +55,7 @@ fn the_programs_set_is_set_a() {
 
 /// The number that a set is refused for; `None` where it is accepted.
 fn number(set: &Set) -> Option<u8> {
-    naive::check(&set.r, &set.s, &set.x).err().map(|refusal| refusal.number)
+    naive::check(Medium::Disc, set.files()).err().map(|refusal| refusal.number)
 }
 
 #[test]

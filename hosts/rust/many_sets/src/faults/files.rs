@@ -51,11 +51,12 @@ pub fn more(random: &mut Random, set: Set) -> Set {
 
 /// The last line over and over, up to 9,999 lines or a few more.
 fn full(random: &mut Random, mut set: Set) -> Set {
+    let width = set.medium.width();
     let bytes = set.file_mut(file(random));
-    let Some(start) = bytes.len().checked_sub(82) else { return set };
+    let Some(start) = bytes.len().checked_sub(width) else { return set };
     let line = bytes[start..].to_vec();
     let lines = 9_999 + random.below(3);
-    let more = line.iter().cycle().take((82 * lines).saturating_sub(bytes.len()));
+    let more = line.iter().cycle().take((width * lines).saturating_sub(bytes.len()));
     bytes.extend(more);
     set
 }

@@ -1,14 +1,17 @@
-//! What can be wrong with a set: each way changes one thing, wrong or not.
+//! What can be wrong with a set: each way changes one thing, wrong or not. A tape has
+//! ways of its own.
 
 mod files;
 mod headers;
 mod lines;
 mod relations;
+mod tapes;
 mod values;
 
 pub(crate) use values::number;
 
-use small_sets::{File, Random, Set};
+use small_sets::{File, Medium, Random, Set};
+use std::ops::RangeInclusive;
 
 /// A name, and what changes a set. Where it finds nothing to change the set stays.
 pub type Way = (&'static str, fn(&mut Random, Set) -> Set);
@@ -44,7 +47,10 @@ pub const WAYS: [Way; 26] = [
 
 /// A set with one thing changed, and the name of the way.
 pub fn damage(random: &mut Random, set: Set) -> (Set, &'static str) {
-    let (name, change) = random.pick(&WAYS);
+    let (name, change) = match set.medium {
+        Medium::Disc => random.pick(&WAYS),
+        Medium::Tape => random.pick(&tapes::WAYS),
+    };
     (change(random, set), name)
 }
 
@@ -58,11 +64,15 @@ fn headers_of(set: &Set, file: File) -> usize {
     set.file(file).chunks_exact(82).take_while(|line| line[0] == b'H').count()
 }
 
+/// A file's own lines.
+pub(crate) fn own_lines(set: &Set, file: File) -> RangeInclusive<usize> {
+    headers_of(set, file) + 1..=set.lines(file)
+}
+
 /// One of a file's own lines.
 pub(crate) fn own_line(random: &mut Random, set: &Set, file: File) -> Option<usize> {
-    let headers = headers_of(set, file);
-    let own = set.lines(file) - headers;
-    (own > 0).then(|| headers + 1 + random.below(own))
+    let own = own_lines(set, file);
+    (!own.is_empty()).then(|| own.start() + random.below(own.clone().count()))
 }
 
 /// Two lines of a file, each in the other's place.

@@ -33,6 +33,11 @@ pub const COMMON: [Large; 2] = [
     ("9,978 receivers, shots and lines", |_| two_million_traces()),
 ];
 
+/// The first of these on tape.
+pub const ON_TAPE: [Large; 1] = [("9,954 receivers, 1,995 shots, 9,975 lines, on tape", |_| {
+    survey().on_tape().expect("characters of a tape")
+})];
+
 /// Sets that are made to take long, of any number of lines, accepted or refused as late
 /// as can be.
 pub const HOSTILE: [Large; 30] = [
@@ -87,7 +92,7 @@ pub const WIDEST: [Large; 2] = [
 
 /// The sets whose check is measured.
 pub fn measured() -> impl Iterator<Item = Large> {
-    SEEDED.into_iter().chain(COMMON).chain(HOSTILE).chain(WIDEST)
+    SEEDED.into_iter().chain(COMMON).chain(ON_TAPE).chain(HOSTILE).chain(WIDEST)
 }
 
 /// The lines below set A's header in a file of so many lines.

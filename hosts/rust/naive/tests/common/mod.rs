@@ -6,14 +6,14 @@ use small_sets::{Answer, Question, Set, STAYS};
 /// The answer in the table's form and the number for a C host. A refused
 /// spread leaves both slices as they are.
 pub fn answer(set: &Set, question: &Question) -> (Answer, u64) {
-    let Set { r, s, x } = set;
+    let (medium, files) = (naive::medium(set.medium as u64).expect("a medium"), set.files());
     match question {
-        Question::Check => both(naive::check(r, s, x), accepted),
+        Question::Check => both(naive::check(medium, files), accepted),
         Question::Trace { tape, record, channel } => {
-            both(naive::trace(r, s, x, tape, *record, *channel), traced)
+            both(naive::trace(medium, files, tape, *record, *channel), traced)
         }
         Question::Channel { tape, record, r_line, component } => {
-            both(naive::channel(r, s, x, tape, *record, *r_line, *component), |channel| {
+            both(naive::channel(medium, files, tape, *record, *r_line, *component), |channel| {
                 channel.map_or(Answer::NoTrace, Answer::Channel)
             })
         }
@@ -21,7 +21,7 @@ pub fn answer(set: &Set, question: &Question) -> (Answer, u64) {
             let mut lines = vec![u16::from_ne_bytes([STAYS; 2]); *lines_len];
             let mut components = vec![STAYS; *components_len];
             let before = (lines.clone(), components.clone());
-            let answer = naive::spread(r, s, x, tape, *record, &mut lines, &mut components);
+            let answer = naive::spread(medium, files, tape, *record, &mut lines, &mut components);
             if answer.is_err() {
                 assert_eq!(before, (lines.clone(), components.clone()), "{answer:?}");
             }

@@ -1,7 +1,7 @@
 //! Whole files: 1 to 6 in their order.
 
 use many_sets::run::{random, turns};
-use naive::{check, File};
+use naive::{check, File, Medium};
 use probe::Refusal;
 use small_sets::{header, marker, receiver, relation, shot, Line, Random};
 use std::collections::BTreeSet;
@@ -11,17 +11,20 @@ const WIDTH: usize = 82;
 /// What both readers refuse a file for. The naive reader gets it among empty
 /// files, which 1 to 6 take; what it refuses after that is no matter of form.
 fn form(file: File, bytes: &[u8]) -> Option<Refusal> {
-    let read = match file {
-        File::R => check(bytes, b"", b""),
-        File::S => check(b"", bytes, b""),
-        File::X => check(b"", b"", bytes),
+    let files: [&[u8]; 3] = match file {
+        File::R => [bytes, b"", b""],
+        File::S => [b"", bytes, b""],
+        File::X => [b"", b"", bytes],
     };
-    let refusal = read.err().filter(|refusal| refusal.number <= 6).map(|refusal| Refusal {
-        number: refusal.number.into(),
-        file: refusal.file.map_or(0, |file| file as u64 + 1),
-        line: refusal.line.into(),
-        column: refusal.column.into(),
-    });
+    let refusal =
+        check(Medium::Disc, files).err().filter(|refusal| refusal.number <= 6).map(|refusal| {
+            Refusal {
+                number: refusal.number.into(),
+                file: refusal.file.map_or(0, |file| file as u64 + 1),
+                line: refusal.line.into(),
+                column: refusal.column.into(),
+            }
+        });
     assert_eq!(probe::form(bytes, file as u8 + 1), refusal, "{file:?} {}", bytes.escape_ascii());
     refusal
 }

@@ -1,10 +1,10 @@
 //! Small sets as folders for the program `cases`: the rows of the paper's table
-//! that check a set, a set for each refusal number, and sets with two faults.
+//! that check a set, a set for each refusal number, sets with two faults, and tapes.
 
 mod one_fault;
 mod two_faults;
 
-use crate::table::paper;
+use crate::table::{paper, tapes};
 use crate::{headers_only, set_a, Set};
 
 pub use one_fault::{one_fault, OneFault};
@@ -23,7 +23,7 @@ impl Folder {
     }
 }
 
-/// All folders, in the order of the lines that the program prints.
+/// All folders of disc files, in the order of the lines that the program prints.
 pub fn folders() -> Vec<Folder> {
     let folder = |name: &str, set| Folder { name: name.to_string(), set };
     let mut folders = vec![
@@ -45,4 +45,29 @@ pub fn folders() -> Vec<Folder> {
     folders.extend(one_fault().iter().map(|case| folder(&case.name(), case.set())));
     folders.extend(two_faults().iter().map(|case| folder(case.name, case.set())));
     folders
+}
+
+/// Folders of tapes, and the cases of the table that they hold.
+const TAPES: [(&str, &str); 14] = [
+    ("tape_set_a", "tape: set A"),
+    ("tape_headers_only", "tape: headers only"),
+    ("tape_every_character", "tape: every character in headers"),
+    ("tape_bytes_behind_eof", "tape: byte 255 behind EOF"),
+    ("tape_cut", "tape: S cut to 79 bytes"),
+    ("tape_empty", "tape: R empty"),
+    ("tape_without_eof", "tape: S without its EOF"),
+    ("tape_second_eof", "tape: X with a second EOF"),
+    ("tape_byte_0_and_no_eof", "tape: X of a byte 0 and no EOF"),
+    ("tape_exclamation_mark", "tape: byte 90 in a header's free columns"),
+    ("tape_odd_channel", "tape: an odd channel"),
+    ("tape_digits_first", "tape: `1A`, `A1`"),
+    ("tape_letters_first", "tape: `A1`, `1A`"),
+    ("tape_s_on_disc", "tape: S on disc"),
+];
+
+/// All folders of tapes, in the order of the lines that the program prints.
+pub fn tape_folders() -> Vec<Folder> {
+    let cases = tapes::cases();
+    let set = |name| cases.iter().find(|case| case.name == name).expect("a case").set.clone();
+    TAPES.map(|(name, case)| Folder { name: name.to_string(), set: set(case) }).into()
 }

@@ -159,8 +159,8 @@ fn letters() -> Vec<Case> {
     let between = set_a().insert(R, below(3), header(21));
     let after_marker = headers_only().add(R, marker(R)).add(R, header(26));
     let letter_in_block = set_a().put(X, 1, 1, "E");
-    let Set { r, s, x } = set_a();
-    let exchanged = Set { r: s, s: r, x };
+    let Set { medium, r, s, x } = set_a();
+    let exchanged = Set { medium, r: s, s: r, x };
     cases.extend([
         check("data before the header", data_first, refused(4, S, 2, 1)),
         check("an H line between receivers", between, refused(4, R, below(3), 1)),

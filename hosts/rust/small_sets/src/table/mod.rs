@@ -13,6 +13,7 @@ mod points;
 mod questions;
 mod records;
 mod relations;
+pub mod tapes;
 pub mod write;
 
 use crate::Case;
@@ -20,7 +21,7 @@ use crate::Case;
 /// A name, and what gives the cases.
 pub type Section = (&'static str, fn() -> Vec<Case>);
 
-pub const SECTIONS: [Section; 13] = [
+pub const SECTIONS: [Section; 14] = [
     ("paper", paper::cases),
     ("files", files::cases),
     ("headers", headers::cases),
@@ -34,6 +35,7 @@ pub const SECTIONS: [Section; 13] = [
     ("pairs_of_form", pairs_of_form::cases),
     ("pairs_of_set", pairs_of_set::cases),
     ("answers", answers::cases),
+    ("tapes", tapes::cases),
 ];
 
 /// All sections, one after another.

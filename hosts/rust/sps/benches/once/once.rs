@@ -1,6 +1,9 @@
 //! Checks one of the benchmark's sets once, for `hosts/instructions`. The argument is its
 //! name; without one the names are printed.
 
+#[path = "../../tests/common/wrapped.rs"]
+mod wrapped;
+
 use many_sets::large::{measured, FULL};
 use std::env;
 use std::process::ExitCode;
@@ -15,7 +18,7 @@ fn main() -> ExitCode {
         return ExitCode::FAILURE;
     };
     let set = make(FULL);
-    match sps::Set::new(&set.r, &set.s, &set.x).traces() {
+    match wrapped::wrapped(&set).traces() {
         Ok(traces) => println!("{traces} traces"),
         Err(refusal) => println!("{refusal}"),
     }

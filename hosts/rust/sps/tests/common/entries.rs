@@ -2,6 +2,7 @@
 //! spread table is held to leave its slices as they are.
 
 use crate::lent::{lent, stay};
+use crate::wrapped::wrapped;
 use small_sets::{Answer, Question, Set, STAYS};
 use sps::{Accepted, Record, Refusal, Trace};
 
@@ -9,8 +10,8 @@ use sps::{Accepted, Record, Refusal, Trace};
 const LINE_STAYS: u16 = u16::from_le_bytes([STAYS; 2]);
 
 /// The answers of each of the proved calls for a question, with how it is called.
-pub fn proved(Set { r, s, x }: &Set, question: &Question) -> Vec<(&'static str, Answer)> {
-    let set = sps::Set::new(r, s, x);
+pub fn proved(set: &Set, question: &Question) -> Vec<(&'static str, Answer)> {
+    let set = wrapped(set);
     match question {
         Question::Check => vec![("check", told(set.check(), accepted))],
         Question::Trace { tape, record, channel } => {

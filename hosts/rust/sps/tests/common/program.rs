@@ -1,6 +1,6 @@
 //! Programs run on a set, in a folder of its own.
 
-use small_sets::Set;
+use small_sets::{Medium, Set};
 use std::path::{Path, PathBuf};
 use std::process::{Command, Output};
 use std::{env, fs};
@@ -20,6 +20,15 @@ pub fn folder(name: &str) -> PathBuf {
 pub fn write(folder: &Path, set: &Set) {
     for (name, bytes) in NAMES.into_iter().zip([&set.r, &set.s, &set.x]) {
         fs::write(folder.join(name), bytes).expect("a file of the set");
+    }
+}
+
+/// The words by which the command for a person takes the set of a folder.
+pub fn words(medium: Medium) -> &'static [&'static str] {
+    const ON_TAPE: [&str; 4] = ["--tape", NAMES[0], NAMES[1], NAMES[2]];
+    match medium {
+        Medium::Disc => &NAMES,
+        Medium::Tape => &ON_TAPE,
     }
 }
 

@@ -20,3 +20,5 @@ mod made;
 #[path = "../../../naive/tests/common/mod.rs"]
 mod naive_entry;
 mod tally;
+#[path = "../common/wrapped.rs"]
+mod wrapped;

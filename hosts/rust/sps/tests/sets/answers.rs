@@ -1,5 +1,6 @@
 //! What each of the readers answers to a set.
 
+use crate::wrapped::wrapped;
 use sps::{Accepted, Number, Refusal};
 
 pub type Answer = Result<Accepted, Refusal>;
@@ -15,7 +16,8 @@ pub fn refused(number: u64, file: small_sets::File, line: u64, column: u64) -> A
 }
 
 pub fn naive(set: &small_sets::Set) -> Answer {
-    match naive::check(&set.r, &set.s, &set.x) {
+    let medium = naive::medium(set.medium as u64).expect("a medium");
+    match naive::check(medium, set.files()) {
         Ok(naive::Counts { receivers, shots, relations, traces }) => {
             Ok(Accepted { receivers, shots, relations, traces })
         }
@@ -27,5 +29,5 @@ pub fn naive(set: &small_sets::Set) -> Answer {
 }
 
 pub fn proved(set: &small_sets::Set) -> Answer {
-    sps::Set::new(&set.r, &set.s, &set.x).check()
+    wrapped(set).check()
 }

@@ -3,6 +3,7 @@
 use crate::answers::{naive, proved, Answer};
 use crate::counts::compare_counts;
 use crate::keep::keep;
+use crate::wrapped::wrapped;
 use small_sets::Set;
 
 /// Holds the readers together on a set, and returns what they agree on.
@@ -20,7 +21,7 @@ pub fn compare(set: &Set, how: &str) -> Answer {
 pub fn compare_calls(set: &Set, how: &str) -> Answer {
     let answer = compare(set, how);
     compare_counts(set, answer, 33, how);
-    let traces = sps::Set::new(&set.r, &set.s, &set.x).traces();
+    let traces = wrapped(set).traces();
     assert_eq!(traces, answer.map(|accepted| accepted.traces), "the traces, {how}");
     answer
 }

@@ -1,7 +1,7 @@
 //! The counts in lent bytes: places of eight, the low one first, as many as are whole.
 
 use crate::answers::Answer;
-use crate::archive;
+use crate::archive::{self, Files};
 use crate::compare::compare;
 use crate::lent::lent;
 use many_sets::large::two_million_traces;
@@ -22,20 +22,35 @@ fn written(answer: Answer, length: usize) -> Vec<u8> {
     bytes
 }
 
+/// A set as the calls take it.
+pub fn files(Set { r, s, x, .. }: &Set, medium: u64) -> Files<'_> {
+    Files { medium, r, s, x }
+}
+
 /// Holds every byte of so many to what the set is answered. The call without counts
 /// answers alike.
-pub fn compare_counts(Set { r, s, x }: &Set, answer: Answer, length: usize, how: &str) {
-    let (number, bytes) = lent(STAYS, length, |bytes| archive::counts([r, s, x], bytes));
+pub fn compare_counts(set: &Set, answer: Answer, length: usize, how: &str) {
+    let files = files(set, set.medium as u64);
+    let (number, bytes) = lent(STAYS, length, |bytes| archive::counts(files, bytes));
     assert_eq!(bytes, written(answer, length), "{length} bytes of counts, {how}");
-    assert_eq!(archive::check([r, s, x]), number, "the call without counts, {how}");
+    assert_eq!(archive::check(files), number, "the call without counts, {how}");
 }
 
 /// Counts of one byte, of two and of three, and refusals.
 #[test]
 fn each_length_of_counts() {
     let (few, many) = (set_a(), two_million_traces());
+    let tape = few.on_tape().expect("characters of a tape");
+    let cut = tape.clone().cut(File::X, 80);
     let lost = |set: &Set| set.clone().edit(File::X, set.lines(File::X), |x| x.source(9_999_999));
-    for (set, accepted) in [(lost(&few), false), (lost(&many), false), (few, true), (many, true)] {
+    for (set, accepted) in [
+        (lost(&few), false),
+        (lost(&many), false),
+        (few, true),
+        (many, true),
+        (tape, true),
+        (cut, false),
+    ] {
         let answer = compare(&set, "a set to count");
         assert_eq!(answer.is_ok(), accepted, "{answer:?}");
         for length in [0, 7, 8, 15, 16, 31, 32, 33, 40] {

@@ -23,3 +23,5 @@ mod lengths;
 #[path = "../common/lent.rs"]
 mod lent;
 mod threads;
+#[path = "../common/wrapped.rs"]
+mod wrapped;

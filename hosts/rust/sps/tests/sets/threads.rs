@@ -2,6 +2,7 @@
 
 use crate::answers::{naive, proved};
 use many_sets::faults::damage;
+use many_sets::media::plain;
 use many_sets::run::random;
 use many_sets::sound::sound;
 use std::thread;
@@ -11,11 +12,13 @@ fn at_the_same_time() {
     let mut random = random(36);
     let sets: Vec<_> = (0..400)
         .map(|turn| {
-            let sound = sound(&mut random).set;
-            if turn % 2 == 0 {
-                sound
-            } else {
-                damage(&mut random, sound).0
+            let set = match turn % 4 {
+                0 => plain(&mut random).on_tape().expect("characters of a tape"),
+                _ => sound(&mut random).set,
+            };
+            match turn % 2 {
+                0 => set,
+                _ => damage(&mut random, set).0,
             }
         })
         .collect();

@@ -5,9 +5,10 @@ mod program;
 
 mod large;
 mod reasons;
+mod tapes;
 mod unreadable;
 
-use program::{folder, spswhy, write, NAMES};
+use program::{folder, spswhy, words, write, NAMES};
 use small_sets::Set;
 use std::process::Output;
 
@@ -23,5 +24,5 @@ fn said(output: Output) -> Said {
 fn of(name: &str, set: &Set) -> Said {
     let folder = folder(name);
     write(&folder, set);
-    said(spswhy(&folder, &NAMES))
+    said(spswhy(&folder, words(set.medium)))
 }

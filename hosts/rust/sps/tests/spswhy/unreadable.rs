@@ -63,6 +63,9 @@ fn other_words() {
     no_verdict(&folder, &["set.r01", "set.s01"], needed);
     no_verdict(&folder, &["set.r01", "set.s01", "set.x01", "set.x01"], needed);
     no_verdict(&folder, &["--version"], needed);
+    no_verdict(&folder, &["--tape"], needed);
+    no_verdict(&folder, &["--tape", "set.r01", "set.s01"], needed);
+    no_verdict(&folder, &["set.r01", "set.s01", "set.x01", "--tape"], needed);
 }
 
 #[test]
@@ -71,7 +74,7 @@ fn help() {
     for word in ["--help", "-h"] {
         let (status, help, why) = said(spswhy(&folder, &[word]));
         assert_eq!((status, why.as_str()), (Some(0), ""));
-        assert!(help.starts_with("usage: spswhy R S X\n"), "{help}");
+        assert!(help.starts_with("usage: spswhy [--tape] R S X\n"), "{help}");
     }
 }
 

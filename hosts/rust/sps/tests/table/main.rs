@@ -13,10 +13,12 @@ mod made;
 mod naive_entry;
 #[path = "../common/program.rs"]
 mod program;
+#[path = "../common/wrapped.rs"]
+mod wrapped;
 
 use difference::difference;
-use program::{folder, spswhy, write, NAMES};
-use small_sets::{table, Case, Question};
+use program::{folder, spswhy, words, write};
+use small_sets::{table, Case, Medium, Question, Set};
 use std::path::Path;
 use std::process::Command;
 
@@ -41,17 +43,14 @@ fn each_call() {
 }
 
 /// Each case of the set check through a program, which prints the verdict on the set of
-/// a folder and has room for so many bytes a file.
-fn entry(name: &str, most: usize, program: impl Fn(&Path) -> Vec<u8>) {
+/// a folder and takes some of the sets.
+fn entry(name: &str, takes: fn(&Set) -> bool, program: impl Fn(&Path, Medium) -> Vec<u8>) {
     let folder = folder(name);
-    let fits = |case: &Case| {
-        let longest = case.set.r.len().max(case.set.s.len()).max(case.set.x.len());
-        case.question == Question::Check && longest <= most
-    };
+    let fits = |case: &Case| case.question == Question::Check && takes(&case.set);
     let mut cases = 0;
     for case in table().into_iter().filter(fits) {
         write(&folder, &case.set);
-        let line = String::from_utf8(program(&folder)).expect("text");
+        let line = String::from_utf8(program(&folder, case.set.medium)).expect("text");
         assert_eq!(Some(line), case.expected.verdict(), "{}", case.name);
         cases += 1;
     }
@@ -60,14 +59,18 @@ fn entry(name: &str, most: usize, program: impl Fn(&Path) -> Vec<u8>) {
 
 #[test]
 fn the_command_for_a_person() {
-    entry("table_spswhy", usize::MAX, |folder| spswhy(folder, &NAMES).stdout);
+    entry("table_spswhy", |_| true, |folder, medium| spswhy(folder, words(medium)).stdout);
 }
 
+/// It takes disc files of at most 65,536 bytes.
 #[test]
 fn the_program() {
     let root = made::root(env!("CARGO_MANIFEST_DIR"));
     let spschk = made::made(&root, "bin/spschk", ["check", "spschk"]);
-    entry("table_spschk", 65_536, |folder| {
+    let takes = |set: &Set| {
+        set.medium == Medium::Disc && set.files().iter().all(|file| file.len() <= 65_536)
+    };
+    entry("table_spschk", takes, |folder, _| {
         Command::new(&spschk).current_dir(folder).output().expect("spschk runs").stdout
     });
 }

@@ -2,32 +2,38 @@
 //! standard output, the reason and the line on standard error.
 //!
 //! All it knows of sets is what the proved check says. `files` reads the three files,
-//! `reason` puts a refusal into words, `fields` names the field that a column starts.
+//! `reason` puts a refusal into words, `fields` names the field that a column starts,
+//! `text` has the characters of a line, `looks` what a file looks like.
 
 #![forbid(unsafe_code)]
 
 mod fields;
 mod files;
+mod looks;
 mod reason;
+mod text;
 
 use files::Named;
-use sps::Set;
+use sps::{Medium, Set};
 use std::ffi::OsString;
 use std::fmt::Display;
 use std::io::{self, Write};
 use std::process::ExitCode;
 
 const HELP: &str = "\
-usage: spswhy R S X
+usage: spswhy [--tape] R S X
 
 Checks the SPS set of the files R (receivers), S (shots) and X (relations), lines of
-80 columns, CR and LF. Prints one line on standard output:
+80 columns, CR and LF. With --tape the files are tapes: joined records of 80 bytes in
+EBCDIC, code page 037, ended by one with EOF in its first columns. Prints one line on
+standard output:
 
     ACCEPTED receivers shots relation-lines traces
     REFUSED number file line column
 
 A refusal is the first breach. Its reason and its line, with a mark under the column,
-go to standard error.
+go to standard error; the line of a tape is shown translated. Files that look like the
+other medium are named there too, and judged as they are asked to be.
 
 Status 0: accepted. 1: refused. 2: no verdict, since a file could not be read, the
 arguments are not three, or the verdict could not be written.
@@ -39,9 +45,13 @@ const NO_VERDICT: u8 = 2;
 
 fn main() -> ExitCode {
     let words: Vec<OsString> = std::env::args_os().skip(1).collect();
-    let status = match words.as_slice() {
+    let (medium, words) = match words.as_slice() {
+        [word, words @ ..] if word == "--tape" => (Medium::Tape, words),
+        words => (Medium::Disc, words),
+    };
+    let status = match words {
         [word] if word == "--help" || word == "-h" => print(HELP).map(|()| ACCEPTED),
-        [r, s, x] => judge([r, s, x].map(Named::new)),
+        [r, s, x] => judge(medium, [r, s, x].map(Named::new)),
         _ => Err("three files are needed: R, S and X; --help says more".to_owned()),
     };
     ExitCode::from(status.unwrap_or_else(|why| {
@@ -51,15 +61,16 @@ fn main() -> ExitCode {
 }
 
 /// Reads the files, has them checked, and says what comes of it.
-fn judge(names: [Named; 3]) -> Result<u8, String> {
+fn judge(medium: Medium, names: [Named; 3]) -> Result<u8, String> {
     let [r, s, x] = &names;
-    let files = [r.read()?, s.read()?, x.read()?];
+    let files = [r.read(medium)?, s.read(medium)?, x.read(medium)?];
     let [r, s, x] = &files;
-    match Set::new(r, s, x).check() {
+    match Set::new(medium, r, s, x).check() {
         Ok(accepted) => print(format_args!("{accepted}\n")).map(|()| ACCEPTED),
         Err(refusal) => {
             print(format_args!("{refusal}\n"))?;
-            say(reason::of(&refusal, &names, &files));
+            say(reason::of(medium, &refusal, &names, &files));
+            say(looks::like_other(medium, &names, &files));
             Ok(REFUSED)
         }
     }

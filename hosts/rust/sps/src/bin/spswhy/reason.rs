@@ -1,15 +1,15 @@
 //! A refusal in words, with the line that it is about.
 
 use crate::fields::field;
-use crate::files::Named;
-use sps::{File, Number, Refusal};
+use crate::files::{width, Named};
+use crate::text::shown;
+use sps::{File, Medium, Number, Refusal};
 
-/// The bytes of a line, and how many of them are columns of text.
-const LINE: usize = 82;
+/// The bytes of a line that are columns of text.
 const COLUMNS: usize = 80;
 
 /// The place, the reason, and the line with a mark under the column.
-pub fn of(refusal: &Refusal, names: &[Named; 3], files: &[Vec<u8>; 3]) -> String {
+pub fn of(medium: Medium, refusal: &Refusal, names: &[Named; 3], files: &[Vec<u8>; 3]) -> String {
     let Refusal { number, file, line, column } = *refusal;
     let reason = format!("refused with {}: {number}\n", number.code());
     let Some(file) = file else {
@@ -20,18 +20,18 @@ pub fn of(refusal: &Refusal, names: &[Named; 3], files: &[Vec<u8>; 3]) -> String
         0 => format!("{name}, line {line}\n"),
         _ => format!("{name}, line {line}, column {column}\n"),
     };
-    let line = match (column as usize, bytes_of(&files[file as usize], line)) {
+    let line = match (column as usize, text_of(medium, &files[file as usize], line)) {
         (0, _) => "no line is shown: the breach is of no column\n".to_owned(),
         (_, None) => "no line is shown: it is beyond the end of the file\n".to_owned(),
-        (column, Some(line)) => rule(number, file, line, column) + &marked(line, column),
+        (column, Some(line)) => rule(number, file, &line, column) + &marked(&line, column),
     };
     place + &reason + &line
 }
 
-/// A whole line with its CR and LF.
-fn bytes_of(file: &[u8], line: u64) -> Option<&[u8]> {
+/// The text of a whole line, on disc with what stands for its CR and LF.
+fn text_of(medium: Medium, file: &[u8], line: u64) -> Option<Vec<u8>> {
     let above = usize::try_from(line).ok()?.checked_sub(1)?;
-    file.chunks_exact(LINE).nth(above)
+    Some(shown(medium, file.chunks_exact(width(medium)).nth(above)?))
 }
 
 /// Of a field that breaks its rule, its name and the rule.
@@ -47,12 +47,9 @@ fn rule(number: Number, file: File, line: &[u8], column: usize) -> String {
     }
 }
 
-/// The columns of a line, and below them a mark. A byte that is no character of a
-/// line stands as a `?`; CR and LF are left out where the mark is not beyond them.
+/// The columns of a line, and below them a mark. CR and LF are left out where the mark
+/// is not beyond them.
 fn marked(line: &[u8], column: usize) -> String {
-    let shown = line.iter().take(column.max(COLUMNS)).map(|&byte| match byte {
-        32..=126 => char::from(byte),
-        _ => '?',
-    });
+    let shown = line.iter().take(column.max(COLUMNS)).copied().map(char::from);
     format!("{}\n{:>column$}\n", shown.collect::<String>(), '^')
 }
