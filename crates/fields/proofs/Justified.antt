@@ -12,7 +12,7 @@ use Rattle.rules.proofs.Tests.{says}
 use Rattle.rules.proofs.Sizes.{Small, small-more}
 use Rattle.rules.specs.Places.{pick}
 use Rattle.rules.specs.Text.{col, cols}
-use Rattle.rules.specs.Numbers.{digit, Number, malformed, digits, justified, whole, negative, minusOr, signed, then, decimal, size}
+use Rattle.rules.specs.Numbers.{digit, Number, malformed, digits, justified, whole, negative, minusOr, signed, then, pointed, decimal, tenths, size}
 use Rattle.rules.proofs.Columns.{cols-end, cols-step, cols-length, cols-at, cols-take}
 use Rattle.fields.specs.Ink.{inkFrom, pointDigit, tenthsOf}
 
@@ -73,14 +73,14 @@ module _ (l : List ℕ) (c b : ℕ) (o : 1 ≤ c) where
     unfolding minusOr pick
     minus-other q = rw (cols-step l c o b h, ne-eqb _ _ q)
 
--- a decimal, by its last two columns
-module _ (read : List ℕ → Number) (l : List ℕ) (a b : ℕ) (o : 1 ≤ a) where
-  pub decimal-short : b ≤ a → malformed ≡ decimal read (cols l a b)
-  unfolding decimal pick
-  decimal-short h =
-      let n = cols-length l a o b in
-      let z : length (cols l a b) < 2 = omega arith in
-      rw (lt-leb _ _ z)
+-- the last two columns
+module _ (l : List ℕ) (a b : ℕ) (o : 1 ≤ a) where
+  short : b ≤ a → leb 2 (length (cols l a b)) ≡ false
+  short h = let n = cols-length l a o b in let z : length (cols l a b) < 2 = omega arith in lt-leb 2 (length (cols l a b)) z
+
+  pub pointed-short : b ≤ a → false ≡ pointed (cols l a b)
+  unfolding pointed
+  pointed-short h = rw (short h)
 
   module _ (h : a < b) where
     width : length (cols l a b) ≡ b + 1 - a
@@ -109,9 +109,29 @@ module _ (read : List ℕ → Number) (l : List ℕ) (a b : ℕ) (o : 1 ≤ a) w
         cols-take l a o b (length (cols l a b) - 2) (omega arith)
         ∙ ap (cols l a) (let z : a + (length (cols l a b) - 2) - 1 ≡ b - 2 = omega arith in z)
 
-    pub decimal-long : tenthsOf l b (read (cols l a (b - 2))) ≡ decimal read (cols l a b)
-    unfolding decimal tenthsOf pointDigit
-    decimal-long = rw (wide, before, last, front)
+    pub pointed-long : eqb (getD l (b - 2) 0) 46 ≡ pointed (cols l a b)
+    unfolding pointed
+    pointed-long = rw (wide, before)
+
+-- a decimal, by its last two columns
+module _ (read : List ℕ → Number) (l : List ℕ) (a b : ℕ) (o : 1 ≤ a) where
+  pub decimal-short : b ≤ a → malformed ≡ decimal read (cols l a b)
+  unfolding decimal pointed pick
+  decimal-short h = rw (short l a b o h)
+
+  pub decimal-long : a < b → tenthsOf l b (read (cols l a (b - 2))) ≡ decimal read (cols l a b)
+  unfolding decimal pointed tenthsOf pointDigit
+  decimal-long h = rw (wide l a b o h, before l a b o h, last l a b o h, front l a b o h)
+
+-- tenths in either spelling, by whether there is a point
+module _ (read : List ℕ → Number) (bs : List ℕ) (t : Bool) (e : t ≡ pointed bs) where
+  pub with-point : t ≡ true → decimal read bs ≡ tenths read bs
+  unfolding tenths pick
+  with-point y = rw (← e, y)
+
+  pub without-point : t ≡ false → read bs ≡ tenths read bs
+  unfolding tenths pick
+  without-point n = rw (← e, n)
 
 pub point-digit-is : (l : List ℕ) (b : ℕ) → pointDigit l b ≡ true → (48 ≤ getD l (b - 1) 0) × (getD l (b - 1) 0 ≤ 57)
 unfolding pointDigit digit

@@ -1,9 +1,10 @@
-// Numbers right justified in columns a to b: blanks, an optional minus, digits, a point and one digit.
+// Numbers right justified in columns a to b: blanks, an optional minus, digits, and in one spelling of a decimal a point and one digit.
 ghost use mathlib.Core.Path.{_≡_};
 ghost use Prim.Native.Nat.{ℕ, _+_, _^_, _≤_, _<_};
 ghost use mathlib.Core.Bool.{true};
 ghost use Rattle.rules.specs.Text.{cols};
 ghost use Rattle.rules.specs.Numbers.{digits as digitsOf, whole as wholeOf, signed as signedOf, decimal as decimalOf, then as thenOf};
+ghost use Rattle.rules.specs.Numbers.{pointed as pointedIn, tenths as spelledOf};
 ghost use Rattle.rules.specs.Numbers.{negative as negativeOf, size as sizeOf, value as valueOf};
 ghost use Rattle.rules.specs.Kinds.{water as waterOf};
 ghost use Rattle.fields.specs.Paper.{number};
@@ -125,8 +126,8 @@ fn tenths(l: &[u8; 80], b: usize, n: Number) -> Number
     then(n, l[b - 1] - 48)
 }
 
-// A decimal that has no sign, in tenths.
-pub fn decimal(l: &[u8; 80], a: usize, b: usize) -> Number
+// A number, a point and one digit, in tenths.
+fn pointed(l: &[u8; 80], a: usize, b: usize) -> Number
     requires { ⌜ (1 ≤ a) × ((b ≤ 80) × (b < a + 16)) ⌝ }
     ensures value { λ n. ⌜ number n ≡ decimalOf wholeOf (cols (now (l .entry)) a b) ⌝ }
 {
@@ -136,8 +137,8 @@ pub fn decimal(l: &[u8; 80], a: usize, b: usize) -> Number
     tenths(l, b, whole(l, a, b - 2))
 }
 
-// A decimal with an optional minus, in tenths.
-pub fn signed_decimal(l: &[u8; 80], a: usize, b: usize) -> Number
+// The same with an optional minus.
+fn signed_pointed(l: &[u8; 80], a: usize, b: usize) -> Number
     requires { ⌜ (1 ≤ a) × ((b ≤ 80) × (b < a + 16)) ⌝ }
     ensures value { λ n. ⌜ number n ≡ decimalOf signedOf (cols (now (l .entry)) a b) ⌝ }
 {
@@ -147,12 +148,45 @@ pub fn signed_decimal(l: &[u8; 80], a: usize, b: usize) -> Number
     tenths(l, b, signed(l, a, b - 2))
 }
 
-// Water depth in tenths: a decimal, 0 to 99.9, or whole metres, 0 to 999.
+// A point stands in the last column but one.
+fn is_pointed(l: &[u8; 80], a: usize, b: usize) -> bool
+    requires { ⌜ (1 ≤ a) × (b ≤ 80) ⌝ }
+    ensures value { λ t. ⌜ t ≡ pointedIn (cols (now (l .entry)) a b) ⌝ }
+{
+    if b <= a {
+        return false;
+    }
+    l[b - 2] == 46
+}
+
+// A decimal that has no sign, in tenths: with a point and one digit after it, or digits alone, which count tenths.
+pub fn decimal(l: &[u8; 80], a: usize, b: usize) -> Number
+    requires { ⌜ (1 ≤ a) × ((b ≤ 80) × (b < a + 16)) ⌝ }
+    ensures value { λ n. ⌜ number n ≡ spelledOf wholeOf (cols (now (l .entry)) a b) ⌝ }
+{
+    if is_pointed(l, a, b) {
+        return pointed(l, a, b);
+    }
+    whole(l, a, b)
+}
+
+// The same with an optional minus.
+pub fn signed_decimal(l: &[u8; 80], a: usize, b: usize) -> Number
+    requires { ⌜ (1 ≤ a) × ((b ≤ 80) × (b < a + 16)) ⌝ }
+    ensures value { λ n. ⌜ number n ≡ spelledOf signedOf (cols (now (l .entry)) a b) ⌝ }
+{
+    if is_pointed(l, a, b) {
+        return signed_pointed(l, a, b);
+    }
+    signed(l, a, b)
+}
+
+// Water depth in tenths: a decimal with its point, 0 to 99.9, or whole metres, 0 to 999.
 pub fn water(l: &[u8; 80], a: usize, b: usize) -> Number
     requires { ⌜ (1 ≤ a) × ((b ≤ 80) × (b < a + 16)) ⌝ }
     ensures value { λ n. ⌜ number n ≡ waterOf (cols (now (l .entry)) a b) ⌝ }
 {
-    let t = decimal(l, a, b);
+    let t = pointed(l, a, b);
     if ranges::between(0, 999, t) {
         return t;
     }

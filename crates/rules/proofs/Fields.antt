@@ -14,29 +14,15 @@ use borrow.Author.Tests.{eqb-true, eq-eqb}
 use Rattle.rules.specs.Places.{pick}
 use Rattle.rules.specs.Plan.{fileR}
 use Rattle.rules.specs.Text.{col, same, blank, bytes, oneOf}
-use Rattle.rules.specs.Numbers.{Number, malformed, plus, minus, digits, whole, signed, then, decimal, size, value}
+use Rattle.rules.specs.Numbers.{Number, malformed, plus, minus, digits, whole, signed, then, decimal, tenths, size, value}
 use Rattle.rules.specs.Kinds.{Kind, startsNonBlank, digitsOnly, coordinate, index, waterDepth, time, wholeNumber, signedNumber}
 use Rattle.rules.specs.Kinds.{signedDecimal, decimalNumber, code, mayBeBlank, formed, between, within, allDigits, digit1, indexOf}
 use Rattle.rules.specs.Kinds.{family, isCode, water, isTime, fits}
 use Rattle.rules.specs.MeetsFields.{Digits, Figures, Whole, Minus, Tenths, Decimal, MinusDecimal, InRange, SignedRange, Blank, Index}
 use Rattle.rules.specs.MeetsFields.{OneOf, Family, Code, WaterDepth, Time, Reads}
 use Rattle.rules.proofs.Tests.{says, clash, and-is, or-is, pick-is, same-is}
-use Rattle.rules.proofs.Numbers.{no-plus, no-minus, digit-is, digits-are, whole-is, signed-plus, signed-minus, then-plus, then-minus, decimal-is}
-
-tenths : {P Q : List ℕ → ℕ → Type 0} → ((ws : List ℕ) (m : ℕ) → P ws m ↔ Q ws m) → (bs : List ℕ) (n : ℕ) → Tenths P bs n ↔ Tenths Q bs n
-tenths f bs n = (
-  λ w. (w .0, w .1, w .2, w .3, f (w .0) (w .2) .0 (w .4), w .5, w .6),
-  λ w. (w .0, w .1, w .2, w .3, f (w .0) (w .2) .1 (w .4), w .5, w .6),
-)
-
-pub decimal-whole : (bs : List ℕ) (n : ℕ) → (decimal whole bs ≡ plus n) ↔ Decimal bs n
-decimal-whole bs n = Iff·trans (decimal-is whole plus (λ n e. no-plus e) then-plus bs n) (tenths whole-is bs n)
-
-pub decimal-plus : (bs : List ℕ) (n : ℕ) → (decimal signed bs ≡ plus n) ↔ Decimal bs n
-decimal-plus bs n = Iff·trans (decimal-is signed plus (λ n e. no-plus e) then-plus bs n) (tenths signed-plus bs n)
-
-pub decimal-minus : (bs : List ℕ) (n : ℕ) → (decimal signed bs ≡ minus n) ↔ MinusDecimal bs n
-decimal-minus bs n = Iff·trans (decimal-is signed minus (λ n e. no-minus e) then-minus bs n) (tenths signed-minus bs n)
+use Rattle.rules.proofs.Numbers.{no-plus, no-minus, digit-is, digits-are, whole-is, signed-plus, signed-minus}
+use Rattle.rules.proofs.Spellings.{pointed-whole, decimal-whole, decimal-plus, decimal-minus}
 
 -- ranges
 pub formed-is : (v : Number) → (formed v ≡ true) ↔ ((n : ℕ) × ((v ≡ plus n) ⊎ (v ≡ minus n)))
@@ -180,7 +166,7 @@ water-is : (bs : List ℕ) → (formed (water bs) ≡ true) ↔ WaterDepth bs
 unfolding water pick formed
 water-is bs =
     go (decimal whole bs) (then (whole bs) 0) (between 0 999 (decimal whole bs)) (between 0 999 (whole bs)) (between-formed 0 999 _)
-    (λ e. formed-then _ 0 (between-formed 0 999 _ e)) (range-is (decimal whole) Decimal decimal-whole 0 999 bs)
+    (λ e. formed-then _ 0 (between-formed 0 999 _ e)) (range-is (decimal whole) (Tenths Whole) pointed-whole 0 999 bs)
     (range-is whole Whole whole-is 0 999 bs)
   where
     go : {P Q : Type 0} (t m : Number) (a b : Bool) → (a ≡ true → formed t ≡ true) → (b ≡ true → formed m ≡ true)
@@ -197,14 +183,14 @@ pub kind-is : (k : Kind) (bs : List ℕ) → (fits k bs ≡ true) ↔ Reads k bs
 unfolding fits
 kind-is startsNonBlank bs = simp says Iff·rfl
 kind-is digitsOnly bs = all-digits-is bs
-kind-is coordinate bs = formed-reads (decimal signed) Decimal decimal-plus MinusDecimal decimal-minus bs
+kind-is coordinate bs = formed-reads (tenths signed) Decimal decimal-plus MinusDecimal decimal-minus bs
 kind-is index bs = index-is (col bs 1)
 kind-is waterDepth bs = water-is bs
 kind-is time bs = time-is bs
 kind-is (wholeNumber a b) bs = range-is whole Whole whole-is a b bs
 kind-is (signedNumber a b) bs = signed-range-is signed Whole signed-plus Minus signed-minus a b bs
-kind-is (signedDecimal a b) bs = signed-range-is (decimal signed) Decimal decimal-plus MinusDecimal decimal-minus a b bs
-kind-is (decimalNumber b) bs = range-is (decimal whole) Decimal decimal-whole 0 b bs
+kind-is (signedDecimal a b) bs = signed-range-is (tenths signed) Decimal decimal-plus MinusDecimal decimal-minus a b bs
+kind-is (decimalNumber b) bs = range-is (tenths whole) Decimal decimal-whole 0 b bs
 kind-is (code i) bs = code-is i bs
 kind-is (mayBeBlank k) bs =
     let u = or-is (blank bs) (fits k bs) in (

@@ -6,6 +6,7 @@ pub mod Steps
 pub mod Columns
 pub mod Numbers
 pub mod Sizes
+pub mod Spellings
 pub mod Fields
 pub mod Form
 pub mod Raw

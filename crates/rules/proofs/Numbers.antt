@@ -9,7 +9,7 @@ use lib.Dec.{eqb, leb}
 use lib.ListN.{length, getD, take, replicate, length-append}
 use lib.Seq.{take-suc, take-all, take-at, getD-at}
 use borrow.Author.Tests.{eqb-true, eq-eqb}
-use Rattle.rules.specs.Numbers.{digit, Number, malformed, plus, minus, digitsAfter, digits, justified, whole, negative, minusOr, signed, then, decimal}
+use Rattle.rules.specs.Numbers.{digit, Number, malformed, plus, minus, digitsAfter, digits, justified, whole, negative, minusOr, signed, then, pointed, decimal}
 use Rattle.rules.specs.MeetsFields.{Digit, Digits, valueAfter, Figures, Justified, Whole, Minus, Tenths}
 use Rattle.rules.proofs.Tests.{says, pick-is, yes-no}
 
@@ -188,7 +188,7 @@ module _ (read : List ℕ → Number) (make : ℕ → Number) (some : (n : ℕ) 
     (more : (v : Number) (d n : ℕ) → (then v d ≡ make n) ↔ ((m : ℕ) × (v ≡ make m) × (10 * m + d ≡ n))) where
   joined : (ws : List ℕ) (d m n : ℕ) → read ws ≡ make m → Digit d → 10 * m + (d - 48) ≡ n
       → decimal read (ws ++ (46 ∷ d ∷ [])) ≡ make n
-  unfolding decimal
+  unfolding decimal pointed
   joined ws d m n r h e =
       let bs = ws ++ (46 ∷ d ∷ []) in
       let l : length bs ≡ length ws + 2 = length-append ws (46 ∷ d ∷ []) in
@@ -204,7 +204,7 @@ module _ (read : List ℕ → Number) (make : ℕ → Number) (some : (n : ℕ) 
       )
 
   pub decimal-is : (bs : List ℕ) (n : ℕ) → (decimal read bs ≡ make n) ↔ Tenths (λ ws m. read ws ≡ make m) bs n
-  unfolding decimal
+  unfolding decimal pointed
   decimal-is bs n =
       let w = length bs in
       let d = getD bs (w - 1) 0 in

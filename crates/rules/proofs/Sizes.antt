@@ -9,7 +9,7 @@ use lib.Dec.{eqb}
 use lib.ListN.{length, getD, take, length-take}
 use Rattle.rules.specs.Places.{pick}
 use Rattle.rules.specs.Numbers.{digit, Number, malformed, plus, minus, digitsAfter, digits, justified}
-use Rattle.rules.specs.Numbers.{whole, negative, minusOr, signed, then, decimal, size}
+use Rattle.rules.specs.Numbers.{whole, negative, minusOr, signed, then, pointed, decimal, tenths, size}
 use Rattle.rules.proofs.Tests.{says}
 use Rattle.rules.proofs.Numbers.{digit-is}
 
@@ -86,7 +86,7 @@ then-small (plus m) d n h s = let p = pow-suc 10 n in omega arith
 then-small (minus m) d n h s = let p = pow-suc 10 n in omega arith
 
 pub decimal-small : (read : List ℕ → Number) → ((bs : List ℕ) → Small (read bs) (length bs)) → (bs : List ℕ) → Small (decimal read bs) (length bs)
-unfolding decimal
+unfolding decimal pointed
 decimal-small read f bs =
     let w = length bs in
     let d = getD bs (w - 1) 0 in
@@ -98,3 +98,11 @@ decimal-small read f bs =
     let n : length (take (w - 2) bs) ≡ w - 2 = simp length-take (omega arith) in
     small-more _ (suc (w - 2)) w (omega arith)
     (then-small (read (take (w - 2) bs)) (d - 48) (w - 2) (omega arith) (rw n at (f (take (w - 2) bs)))))
+
+pub tenths-small : (read : List ℕ → Number) → ((bs : List ℕ) → Small (read bs) (length bs)) → (bs : List ℕ) → Small (tenths read bs) (length bs)
+unfolding tenths pick
+tenths-small read f bs = go (pointed bs)
+  where
+    go : (t : Bool) → Small (pick t (decimal read bs) (read bs)) (length bs)
+    go true = decimal-small read f bs
+    go false = f bs

@@ -1,7 +1,10 @@
--- "The (p) cases form a single proved table over the rules as defined": each row marked (p), on set A built from its description; then tapes.
+-- "The (p) cases form a single proved table over the rules as defined": each row marked (p), on set A built from its description; then tapes, and
+-- coordinates without a point.
 use Prim.Native.Nat.{ℕ}
+use Prim.Native.String.{String}
 use mathlib.Core.Path.{_≡_, refl}
 use mathlib.Core.List.{List, [], _∷_, _++_}
+use lib.IntN.{pos}
 use Rattle.rules.specs.Places
 use Rattle.rules.specs.Plan
 use Rattle.rules.specs.Text
@@ -33,9 +36,10 @@ use Rattle.rules.specs.Plan.{№, fileR, fileX}
 use Rattle.rules.specs.Check.{Answer, accepted, refusal, trace, noTrace, check}
 use Rattle.rules.specs.Lookup.{lookup}
 use Rattle.rules.specs.Layout.{sps93}
+use Rattle.rules.specs.Points.{point}
 use Rattle.rules.specs.Medium.{sheet}
 use Rattle.rules.specs.Tape.{tape}
-use Rattle.rules.specs.SetA.{headers, pointLine, rOf, xOf, rA, sA, xA, lineA, relationLine, eof, tapeOf}
+use Rattle.rules.specs.SetA.{headers, put, pointLine, rOf, xOf, rA, sA, xA, lineA, relationLine, eof, tapeOf}
 
 abbrev checkA : List ℕ → List ℕ → List ℕ → Answer
 checkA r s x = check (file r) (file s) (file x)
@@ -57,6 +61,13 @@ rNames = headers ++ (pointLine "R" "1A" "     101" "G1" ++ pointLine "R" "A1" " 
 abbrev xNames : List ℕ
 xNames = xOf (relationLine "     501" "   1   11" "1A" "     101     101")
 
+-- one receiver, with another text from column c on
+abbrev lineWith : ℕ → String → List ℕ
+lineWith c t = put c (bytes t) (pointLine "R" "L1" "     101" "G1")
+
+abbrev checkWith : ℕ → String → Answer
+checkWith c t = checkA (headers ++ lineWith c t) sA (xOf (relationLine "     501" "   1   11" "L1" "     101     101"))
+
 pub table :
     lookupA xA 11 2
     ∷ lookupA xA 12 2
@@ -74,7 +85,9 @@ pub table :
     ∷ checkA rNames sA xNames
     ∷ checkTape rA sA xA []
     ∷ checkTape rA sA xA eof
-    ∷ checkTape rNames sA xNames [] ∷ []
+    ∷ checkTape rNames sA xNames []
+    ∷ checkWith 47 "003262601"
+    ∷ checkWith 33 "1000" ∷ []
     ≡ trace 23 1
     ∷ noTrace
     ∷ accepted 3 1 1 9
@@ -90,11 +103,13 @@ pub table :
     ∷ accepted 2 1 1 1
     ∷ accepted 3 1 1 3
     ∷ refusal (№ 29 fileX 24 0)
-    ∷ refusal (№ 10 fileR 23 2) ∷ []
+    ∷ refusal (№ 10 fileR 23 2)
+    ∷ accepted 1 1 1 1
+    ∷ refusal (№ 5 fileR 22 33) ∷ []
 unfolding Places.pick Places.every Places.some Places.least Places.count Places.sum Places.greatest Places.ifBefore Places.isBefore Places.ofLast
     Plan._orElse_ Plan.firstOf Plan.run Text.col Text.front Text.cols Text.same Text.less Text.blank Text.bytes Text.oneOf Numbers.digit
-    Numbers.digitsAfter Numbers.digits Numbers.whole Numbers.justified Numbers.negative Numbers.minusOr Numbers.signed Numbers.then Numbers.decimal
-    Numbers.size Numbers.value Kinds.formed Kinds.between Kinds.within Kinds.allDigits Kinds.digit1 Kinds.indexOf Kinds.family Kinds.isCode
+    Numbers.digitsAfter Numbers.digits Numbers.whole Numbers.justified Numbers.negative Numbers.minusOr Numbers.signed Numbers.then Numbers.pointed
+    Numbers.decimal Numbers.tenths Numbers.size Numbers.value Kinds.formed Kinds.between Kinds.within Kinds.allDigits Kinds.digit1 Kinds.indexOf Kinds.family Kinds.isCode
     Kinds.water Kinds.isTime Kinds.fits Layout.sps93 Layout.at Sheet.mostLines Disc.printable Disc.byteFits Form.strayFrom Form.stray Form.ending Form.rule29
     Medium.sheet Disc.disc Tape.page Tape.charIn Tape.placeOf Tape.byteIn Tape.tape Names.sameName Names.ranked Names.lessName Lines.letter Lines.isHeader Lines.isMarker Lines.isData Lines.isPoint Lines.heads Points.holds
     Points.nameOf Points.numberOf Points.indexAt Points.point Points.pointAt Points.isAt Points.samePoint Relations.reach Relations.relation
@@ -109,3 +124,10 @@ unfolding Places.pick Places.every Places.some Places.least Places.count Places.
     Lookup.reaches Lookup.foundBack Lookup.wayBack Spread.highestOf Spread.lineOf Spread.componentOf Spread.turns Spread.rule21 Spread.spreadVerdict
     Spread.spread Spread.unlessRefused Spread.slice Hosts.packed Hosts.hostNumber Hosts.numbersOf
 table = refl
+
+-- "easting 003262601, meaning 326260.1"
+pub bare-easting : point sps93 (lineWith 47 "003262601") .easting ≡ pos 3262601
+unfolding Places.pick Text.col Text.front Text.cols Text.blank Text.bytes Numbers.digit Numbers.digitsAfter Numbers.digits Numbers.whole Numbers.justified Numbers.negative
+    Numbers.minusOr Numbers.signed Numbers.then Numbers.pointed Numbers.decimal Numbers.tenths Numbers.size Numbers.value Kinds.between Kinds.indexOf Kinds.water
+    Layout.sps93 Layout.at Points.holds Points.nameOf Points.numberOf Points.indexAt Points.point
+bare-easting = refl

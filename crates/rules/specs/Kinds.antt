@@ -8,7 +8,7 @@
 --   coordinate         = a decimal with no range but its columns
 --   index              = 1-9, or blank, which is 1
 --   code i             = a point code of file i
---   waterDepth         = a decimal, 0 to 99.9, or whole metres, 0 to 999
+--   waterDepth         = a decimal with its point, 0 to 99.9, or whole metres, 0 to 999
 --   time               = six digits, 000000 to 235959, minutes and seconds below 60
 --   mayBeBlank k       = the rule k, or blanks alone
 --   fits k bs          = the bytes obey the rule k
@@ -21,7 +21,7 @@ use lib.ListN.{take, drop}
 use Rattle.rules.specs.Places.{pick}
 use Rattle.rules.specs.Plan.{fileR}
 use Rattle.rules.specs.Text.{col, same, blank, bytes, oneOf}
-use Rattle.rules.specs.Numbers.{digit, Number, malformed, plus, minus, digits, whole, signed, decimal, then}
+use Rattle.rules.specs.Numbers.{digit, Number, malformed, plus, minus, digits, whole, signed, decimal, tenths, then}
 
 pub data Kind : Type 0 where
   startsNonBlank : Kind
@@ -86,13 +86,13 @@ isTime bs =
 unfoldable pub fits : Kind → List ℕ → Bool
 fits startsNonBlank bs = not (eqb (col bs 1) 32)
 fits digitsOnly bs = allDigits bs
-fits coordinate bs = formed (decimal signed bs)
+fits coordinate bs = formed (tenths signed bs)
 fits index bs = eqb (col bs 1) 32 || digit1 (col bs 1)
 fits waterDepth bs = formed (water bs)
 fits time bs = isTime bs
 fits (wholeNumber m n) bs = between m n (whole bs)
 fits (signedNumber m n) bs = within m n (signed bs)
-fits (signedDecimal m n) bs = within m n (decimal signed bs)
-fits (decimalNumber n) bs = between 0 n (decimal whole bs)
+fits (signedDecimal m n) bs = within m n (tenths signed bs)
+fits (decimalNumber n) bs = between 0 n (tenths whole bs)
 fits (code i) bs = isCode i bs
 fits (mayBeBlank k) bs = let rest = fits k bs in blank bs || rest

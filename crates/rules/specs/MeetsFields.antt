@@ -6,6 +6,7 @@
 --   Whole bs n                 = blanks, then digits of value n
 --   Minus bs n                 = blanks, a minus, then digits of value n
 --   Tenths P bs n              = columns of which P holds, a point and one digit: n tenths
+--   Spelled P bs n             = n tenths in either spelling: columns of which P holds, which count tenths, or with a point and one digit
 --   Decimal, MinusDecimal bs n = n tenths, without and with a minus
 --   InRange, SignedRange       = a number from a to b, and one from -a to b
 --   Blank bs                   = all columns are blank
@@ -53,11 +54,15 @@ abbrev pub Tenths : (List ℕ → ℕ → Type 0) → List ℕ → ℕ → Type 
 Tenths P bs n =
     (ws : List ℕ) × (d m : ℕ) × (bs ≡ ws ++ (46 ∷ d ∷ [])) × P ws m × Digit d × (10 * m + (d - 48) ≡ n)
 
+-- "digits with no point count tenths. Accept both spellings"
+abbrev pub Spelled : (List ℕ → ℕ → Type 0) → List ℕ → ℕ → Type 0
+Spelled P bs n = P bs n ⊎ Tenths P bs n
+
 abbrev pub Decimal : List ℕ → ℕ → Type 0
-Decimal = Tenths Whole
+Decimal = Spelled Whole
 
 abbrev pub MinusDecimal : List ℕ → ℕ → Type 0
-MinusDecimal = Tenths Minus
+MinusDecimal = Spelled Minus
 
 abbrev pub InRange : (List ℕ → ℕ → Type 0) → ℕ → ℕ → List ℕ → Type 0
 InRange P a b bs = (n : ℕ) × P bs n × (a ≤ n) × (n ≤ b)
@@ -85,7 +90,7 @@ Code i bs =
 
 -- "0 to 99.9, or whole metres 0 to 999"
 abbrev pub WaterDepth : List ℕ → Type 0
-WaterDepth bs = InRange Decimal 0 999 bs ⊎ InRange Whole 0 999 bs
+WaterDepth bs = InRange (Tenths Whole) 0 999 bs ⊎ InRange Whole 0 999 bs
 
 -- "six digits, 000000 to 235959, minutes and seconds below 60"
 abbrev pub Time : List ℕ → Type 0

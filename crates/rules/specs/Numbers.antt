@@ -4,7 +4,9 @@
 --   digits bs                 = digits to the last column, at least one
 --   whole bs                  = blanks, then digits to the last column
 --   signed bs                 = the same, with an optional minus before the digits
+--   pointed bs                = a point stands in the last column but one
 --   decimal read bs           = a number by `read`, a point and one digit, in tenths
+--   tenths read bs            = such a decimal where it is pointed, else a number by `read`, which counts tenths
 --   size v, value v           = the number without and with its sign; -0 is 0
 use Prim.Native.Nat.{ℕ, _+_, _-_, _*_}
 use mathlib.Core.Bool.{Bool, _&&_}
@@ -62,12 +64,21 @@ then malformed d = malformed
 then (plus n) d = plus (10 * n + d)
 then (minus n) d = minus (10 * n + d)
 
+unfoldable pub pointed : List ℕ → Bool
+pointed bs = let w = length bs in leb 2 w && eqb (getD bs (w - 2) 0) (code ".")
+
 unfoldable pub decimal : (List ℕ → Number) → List ℕ → Number
 decimal read bs =
     let w = length bs in
     let d = getD bs (w - 1) 0 in
     let n = then (read (take (w - 2) bs)) (d - 48) in
-    pick (leb 2 w && eqb (getD bs (w - 2) 0) (code ".") && digit d) n malformed
+    pick (pointed bs && digit d) n malformed
+
+unfoldable pub tenths : (List ℕ → Number) → List ℕ → Number
+tenths read bs =
+    let d = decimal read bs in
+    let n = read bs in
+    pick (pointed bs) d n
 
 unfoldable pub size : Number → ℕ
 size malformed = 0

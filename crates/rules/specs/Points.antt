@@ -11,7 +11,7 @@ use lib.Dec.{eqb}
 use lib.IntN.{ℤ}
 use Rattle.rules.specs.Places.{pick}
 use Rattle.rules.specs.Text.{col, blank}
-use Rattle.rules.specs.Numbers.{Number, whole, signed, decimal, size, value}
+use Rattle.rules.specs.Numbers.{Number, whole, signed, tenths, size, value}
 use Rattle.rules.specs.Kinds.{indexOf, water}
 use Rattle.rules.specs.Names.{Name, text, sameName}
 use Rattle.rules.specs.Layout.{Layout, Span, at}
@@ -58,13 +58,13 @@ point L l =
       index = indexAt l (L .index);
       code = at l (L .code);
       static = holds signed (at l (L .static));
-      depth = value (decimal whole (at l (L .depth)));
+      depth = value (tenths whole (at l (L .depth)));
       datum = value (signed (at l (L .datum)));
       uphole = holds whole (at l (L .uphole));
       water = holds water (at l (L .water));
-      easting = value (decimal signed (at l (L .easting)));
-      northing = value (decimal signed (at l (L .northing)));
-      elevation = value (decimal signed (at l (L .elevation)));
+      easting = value (tenths signed (at l (L .easting)));
+      northing = value (tenths signed (at l (L .northing)));
+      elevation = value (tenths signed (at l (L .elevation)));
       day = numberOf l (L .day);
       time = numberOf l (L .time);
     }

@@ -1,33 +1,25 @@
 -- `fields::numbers::decimal` meets its contract. Assumes nothing.
-use Prim.Native.Nat.{_-_}
-use Rattle.fields.proofs.Justified.{decimal-long, decimal-short, few}
-use Rattle.fields.specs.Ink.{tenthsOf}
-use Rattle.rules.proofs.Sizes.{whole-small}
-use Rattle.rules.specs.Numbers.{whole}
-use mathlib.Core.Path.{_∙_, ap}
+use mathlib.Core.Path.{_∙_}
 use borrow.Author.Needs.{needs}
-use native.Mathlib.Omega.{arith}
+use Rattle.rules.specs.Numbers.{whole}
+use Rattle.fields.proofs.Justified.{with-point, without-point}
 use Rattle.fields.proofs.numbers.decimal.Statement.{statement}
 use Rattle.fields.proofs.numbers.decimal.Tie as tie
 
-returns : tie.Need-returns
-returns c = decimal-short whole _ _ _ (c .before .pre .0) (c .if1 .taken)
+is-pointed-requires : tie.Need-is-pointed-requires
+is-pointed-requires c κs = search needs
 
-sub-whole : tie.Need-sub-whole
-sub-whole c = search needs
+pointed-requires : tie.Need-pointed-requires
+pointed-requires c κs = search needs
+
+returns : tie.Need-returns
+returns c = c .pointed .ensures ∙ with-point whole _ _ (c .before .before .is-pointed .ensures) (c .before .if1 .taken)
 
 whole-requires : tie.Need-whole-requires
-whole-requires c κs = (omega arith, (omega arith, omega arith))
-
-tenths-requires : tie.Need-tenths-requires
-tenths-requires c κs =
-    let a = c .before .before .args in
-    (omega arith, (omega arith, rw (c .whole .ensures) (few _ _ (a .a) (a .b - 2) (omega arith) (omega arith) (whole-small _))))
+whole-requires c κs = search needs
 
 returns-2 : tie.Need-returns-2
-returns-2 c =
-    c .tenths .ensures ∙ ap (tenthsOf _ _) (c .before .whole .ensures) ∙ decimal-long whole _ _ _ (c .before .before .before .pre .0)
-    (c .before .before .if1 .left)
+returns-2 c = c .whole .ensures ∙ without-point whole _ _ (c .before .before .is-pointed .ensures) (c .before .if1 .left)
 
 pub decimal-spec : {M : Type 1} → statement M
-decimal-spec = tie.close (tie.spec returns sub-whole whole-requires tenths-requires returns-2)
+decimal-spec = tie.close (tie.spec is-pointed-requires pointed-requires returns whole-requires returns-2)

@@ -10,15 +10,15 @@ use native.Mathlib.Omega.{arith}
 use Rattle.fields.proofs.numbers.water.Statement.{statement}
 use Rattle.fields.proofs.numbers.water.Tie as tie
 
-decimal-requires : tie.Need-decimal-requires
-decimal-requires c κs = search needs
+pointed-requires : tie.Need-pointed-requires
+pointed-requires c κs = search needs
 
 between-requires : tie.Need-between-requires
 between-requires c κs = search needs
 
 returns : tie.Need-returns
 returns c =
-    c .before .before .decimal .ensures ∙ water-tenths _ (sym (c .before .between .ensures ∙ ap (between 0 999) (c .before .before .decimal .ensures))
+    c .before .before .pointed .ensures ∙ water-tenths _ (sym (c .before .between .ensures ∙ ap (between 0 999) (c .before .before .pointed .ensures))
     ∙ c .if1 .taken)
 
 whole-requires : tie.Need-whole-requires
@@ -37,20 +37,20 @@ returns-2 c =
     let d = c .before .before in
     let b = d .before .before in
     c .then .ensures ∙ ap (λ (n : Number). then n 0) (d .before .whole .ensures)
-    ∙ water-metres _ (sym (b .before .between .ensures ∙ ap (between 0 999) (b .before .before .decimal .ensures)) ∙ b .if1 .left)
+    ∙ water-metres _ (sym (b .before .between .ensures ∙ ap (between 0 999) (b .before .before .pointed .ensures)) ∙ b .if1 .left)
     (sym (d .between2 .ensures ∙ ap (between 0 999) (d .before .whole .ensures)) ∙ c .before .if2 .taken)
 
 returns-3 : tie.Need-returns-3
 returns-3 c =
     let b = c .before .before .before in
-    water-none _ (sym (b .before .between .ensures ∙ ap (between 0 999) (b .before .before .decimal .ensures)) ∙ b .if1 .left)
+    water-none _ (sym (b .before .between .ensures ∙ ap (between 0 999) (b .before .before .pointed .ensures)) ∙ b .if1 .left)
     (sym (c .before .between2 .ensures ∙ ap (between 0 999) (c .before .before .whole .ensures)) ∙ c .if2 .left)
 
 pub water-spec : {M : Type 1} → statement M
 water-spec =
     tie.close
     (tie.spec
-    decimal-requires
+    pointed-requires
     between-requires
     returns
     whole-requires

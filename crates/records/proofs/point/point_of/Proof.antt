@@ -5,7 +5,7 @@ use Rattle.fields.specs.Paper.{number}
 use Rattle.records.proofs.Sizes.{fits-62, water-62}
 use Rattle.records.proofs.Values.{held-is}
 use Rattle.records.specs.Coded.{heldOf}
-use Rattle.rules.proofs.Sizes.{decimal-small, signed-small, whole-small}
+use Rattle.rules.proofs.Sizes.{tenths-small, signed-small, whole-small}
 use Rattle.rules.specs.Kinds.{code, index, time, water}
 use Rattle.rules.specs.Layout.{at, sps93}
 use Rattle.rules.specs.Numbers.{Number, signed, value, whole}
@@ -51,7 +51,7 @@ decimal-requires : tie.Need-decimal-requires
 decimal-requires c κs = search needs
 
 value-requires : tie.Need-value-requires
-value-requires c κs = rw (c .decimal .ensures) (fits-62 _ _ 33 36 (lit≤ tt) (lit≤ tt) (decimal-small whole whole-small _))
+value-requires c κs = rw (c .decimal .ensures) (fits-62 _ _ 33 36 (lit≤ tt) (lit≤ tt) (tenths-small whole whole-small _))
 
 signed-requires-2 : tie.Need-signed-requires-2
 signed-requires-2 c κs = search needs
@@ -63,19 +63,19 @@ signed-decimal-requires : tie.Need-signed-decimal-requires
 signed-decimal-requires c κs = search needs
 
 value-requires-3 : tie.Need-value-requires-3
-value-requires-3 c κs = rw (c .signed-decimal .ensures) (fits-62 _ _ 47 55 (lit≤ tt) (lit≤ tt) (decimal-small signed signed-small _))
+value-requires-3 c κs = rw (c .signed-decimal .ensures) (fits-62 _ _ 47 55 (lit≤ tt) (lit≤ tt) (tenths-small signed signed-small _))
 
 signed-decimal-requires-2 : tie.Need-signed-decimal-requires-2
 signed-decimal-requires-2 c κs = search needs
 
 value-requires-4 : tie.Need-value-requires-4
-value-requires-4 c κs = rw (c .signed-decimal2 .ensures) (fits-62 _ _ 56 65 (lit≤ tt) (lit≤ tt) (decimal-small signed signed-small _))
+value-requires-4 c κs = rw (c .signed-decimal2 .ensures) (fits-62 _ _ 56 65 (lit≤ tt) (lit≤ tt) (tenths-small signed signed-small _))
 
 signed-decimal-requires-3 : tie.Need-signed-decimal-requires-3
 signed-decimal-requires-3 c κs = search needs
 
 value-requires-5 : tie.Need-value-requires-5
-value-requires-5 c κs = rw (c .signed-decimal3 .ensures) (fits-62 _ _ 66 71 (lit≤ tt) (lit≤ tt) (decimal-small signed signed-small _))
+value-requires-5 c κs = rw (c .signed-decimal3 .ensures) (fits-62 _ _ 66 71 (lit≤ tt) (lit≤ tt) (tenths-small signed signed-small _))
 
 number-at-requires-2 : tie.Need-number-at-requires-2
 number-at-requires-2 c κs = search needs
