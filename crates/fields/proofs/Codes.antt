@@ -2,13 +2,13 @@
 use Prim.Native.Nat.{ℕ, _+_, _-_, _≤_}
 use native.Mathlib.Omega.{arith}
 use mathlib.Core.Path.{_≡_, ap, ap₂, _∙_}
-use mathlib.Core.Bool.{Bool, true, false, _&&_, _||_}
+use mathlib.Core.Bool.{Bool, true, false, _&&_}
 use mathlib.Core.List.{List, [], _∷_}
 use lib.ListN.{getD, take, drop}
-use Rattle.rules.specs.Text.{col, cols, same, bytes}
+use Rattle.rules.specs.Text.{col, cols}
 use Rattle.rules.specs.Numbers.{malformed, digits, whole as wholeOf, decimal, then}
 use Rattle.rules.specs.Places.{pick}
-use Rattle.rules.specs.Kinds.{between, isTime, isCode, family, digit1, water}
+use Rattle.rules.specs.Kinds.{between, isTime, water}
 use Rattle.rules.proofs.Columns.{cols-end, cols-step, cols-take, cols-drop}
 
 module _ (l : List ℕ) (a : ℕ) (o : 1 ≤ a) where
@@ -53,27 +53,6 @@ module _ (l : List ℕ) (a : ℕ) (o : 1 ≤ a) where
       ∙ ap (λ (r : List ℕ). getD l (a - 1) 0 ∷ r)
       (cols-step l (a + 1) (omega arith) (a + 1) (omega arith)
       ∙ ap₂ _∷_ (ap (λ (i : ℕ). getD l i 0) (let z : a + 1 - 1 ≡ a = omega arith in z)) (cols-end l (a + 1 + 1) (omega arith) (a + 1) (omega arith)))
-
-  abbrev Two : ℕ → ℕ → Bool
-  Two x y = same (getD l (a - 1) 0 ∷ getD l a 0 ∷ []) (x ∷ y ∷ [])
-
-  module _ (i : ℕ) where
-    all : (Two 80 77 || (Two 75 76 || (family i (getD l (a - 1) 0) && digit1 (getD l a 0)))) ≡ isCode i (cols l a (a + 1))
-    unfolding isCode bytes col
-    all = rw two-columns
-
-    pub code-marker : Two 80 77 ≡ true → true ≡ isCode i (cols l a (a + 1))
-    code-marker e = (rw e) ∙ all
-
-    module _ (m : Two 80 77 ≡ false) where
-      pub code-killed : Two 75 76 ≡ true → true ≡ isCode i (cols l a (a + 1))
-      code-killed e = (rw (m, e)) ∙ all
-
-      pub code-other : Two 75 76 ≡ false → family i (getD l (a - 1) 0) ≡ false → false ≡ isCode i (cols l a (a + 1))
-      code-other k e = (rw (m, k, e)) ∙ all
-
-      pub code-digit : Two 75 76 ≡ false → family i (getD l (a - 1) 0) ≡ true → digit1 (getD l a 0) ≡ isCode i (cols l a (a + 1))
-      code-digit k e = (rw (m, k, e)) ∙ all
 
 -- water depth, by the two ways to write it
 module _ (bs : List ℕ) where

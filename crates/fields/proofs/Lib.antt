@@ -8,4 +8,5 @@ pub mod Packed
 pub mod Texts
 pub mod LowHalves
 pub mod Ranked
+pub mod Rows
 pub mod One

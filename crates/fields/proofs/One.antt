@@ -63,6 +63,10 @@ use Rattle.fields.proofs.fits.Reads as fits-reads
 use Rattle.fields.specs.Paper.{number}
 use Rattle.fields.specs.declared.Number.{Number}
 use Rattle.fields.specs.declared.Number.the-variants.{Malformed, Plus, Minus}
+use Rattle.fields.proofs.families.digit1 as digit1
+use Rattle.fields.proofs.families.digit1.Reads as digit1-reads
+use Rattle.fields.proofs.families.is_code as is-code
+use Rattle.fields.proofs.families.is_code.Reads as is-code-reads
 use Rattle.fields.proofs.figures.number as figures-number
 use Rattle.fields.proofs.figures.number.Reads as figures-number-reads
 use Rattle.fields.proofs.figures.index as figures-index
@@ -171,3 +175,9 @@ figures-number-one κs a v v′ w w′ p p′ = (p .0 ∙ sym (p′ .0), refl)
 
 pub figures-index-one : One figures-index.ended figures-index-reads.Post
 figures-index-one κs a v v′ w w′ p p′ = (p .0 ∙ sym (p′ .0), refl)
+
+pub digit1-one : One digit1.ended digit1-reads.Post
+digit1-one κs a v v′ w w′ = alike
+
+pub is-code-one : One is-code.ended is-code-reads.Post
+is-code-one κs a v v′ w w′ = alike

@@ -4,3 +4,4 @@ pub mod Packed
 pub mod Figures
 pub mod Texts
 pub mod Ranks
+pub mod Families

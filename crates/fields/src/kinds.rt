@@ -3,11 +3,11 @@ ghost use mathlib.Core.Path.{_≡_};
 ghost use mathlib.Core.Bool.{_||_};
 ghost use Prim.Native.Nat.{ℕ, _+_, _≤_, _<_};
 ghost use lib.Dec.{eqb};
-ghost use Rattle.rules.specs.Text.{cols, oneOf};
-ghost use Rattle.rules.specs.Kinds.{fits as fitsKind, digit1 as isDigit1, family as isFamily};
+ghost use Rattle.rules.specs.Text.{cols};
+ghost use Rattle.rules.specs.Kinds.{fits as fitsKind, digit1 as isDigit1};
 ghost use Rattle.rules.specs.Kinds.{startsNonBlank, digitsOnly, coordinate as aCoordinate, index as anIndex, waterDepth, time as aTime};
 ghost use Rattle.rules.specs.Kinds.{wholeNumber, signedNumber, signedDecimal, decimalNumber, code as aCode};
-use crate::bytes;
+use crate::families;
 use crate::numbers;
 use crate::ranges;
 
@@ -46,13 +46,6 @@ pub fn coordinate(l: &[u8; 80], a: usize, b: usize) -> bool
     ranges::formed(numbers::signed_decimal(l, a, b))
 }
 
-// A digit 1-9.
-fn digit1(b: u8) -> bool
-    ensures value { λ t. ⌜ t ≡ isDigit1 b ⌝ }
-{
-    49 <= b && b <= 57
-}
-
 // 1-9, or blank.
 fn index_byte(b: u8) -> bool
     ensures value { λ t. ⌜ t ≡ (eqb b 32 || isDigit1 b) ⌝ }
@@ -60,7 +53,7 @@ fn index_byte(b: u8) -> bool
     if b == 32 {
         return true;
     }
-    digit1(b)
+    families::digit1(b)
 }
 
 // An index in column a: 1-9, or blank.
@@ -125,68 +118,10 @@ pub fn decimal_number(n: u64, l: &[u8; 80], a: usize, b: usize) -> bool
     ranges::between(0, n, numbers::decimal(l, a, b))
 }
 
-// The first letter of a receiver's code.
-fn receiver_family(b: u8) -> bool
-    ensures value { λ t. ⌜ t ≡ oneOf "GHR" b ⌝ }
-{
-    if b == b'G' {
-        return true;
-    }
-    if b == b'H' {
-        return true;
-    }
-    if b == b'R' {
-        return true;
-    }
-    false
-}
-
-// The first letter of a shot's code.
-fn shot_family(b: u8) -> bool
-    ensures value { λ t. ⌜ t ≡ oneOf "VEAWS" b ⌝ }
-{
-    if b == b'V' {
-        return true;
-    }
-    if b == b'E' {
-        return true;
-    }
-    if b == b'A' {
-        return true;
-    }
-    if b == b'W' {
-        return true;
-    }
-    if b == b'S' {
-        return true;
-    }
-    false
-}
-
-fn family(i: u8, b: u8) -> bool
-    ensures value { λ t. ⌜ t ≡ isFamily i b ⌝ }
-{
-    if i == 1 {
-        return receiver_family(b);
-    }
-    shot_family(b)
-}
-
 // A point code of file i in the two columns from a on.
 pub fn code(i: u8, l: &[u8; 80], a: usize) -> bool
     requires { ⌜ (1 ≤ a) × (a ≤ 79) ⌝ }
     ensures value { λ t. ⌜ t ≡ fitsKind (aCode i) (cols (now (l .entry)) a (a + 1)) ⌝ }
 {
-    let b = l[a - 1];
-    let d = l[a];
-    if bytes::two(b, d, b'P', b'M') {
-        return true;
-    }
-    if bytes::two(b, d, b'K', b'L') {
-        return true;
-    }
-    if !family(i, b) {
-        return false;
-    }
-    digit1(d)
+    families::is_code(i, l[a - 1], l[a])
 }

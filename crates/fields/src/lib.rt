@@ -6,6 +6,7 @@ ghost use Rattle.rules.specs.Kinds.{fits as fitsKind};
 ghost use Rattle.fields.specs.Paper.{kind, Sized};
 
 pub mod bytes;
+pub mod families;
 pub mod figures;
 pub mod kinds;
 pub mod names;

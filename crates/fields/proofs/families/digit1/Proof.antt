@@ -1,8 +1,8 @@
--- `fields::kinds::digit1` meets its contract. Assumes nothing.
+-- `fields::families::digit1` meets its contract. Assumes nothing.
 use Rattle.rules.specs.Kinds.{digit1}
 use borrow.Author.Tests.{le-leb, lt-leb}
-use Rattle.fields.proofs.kinds.digit1.Statement.{statement}
-use Rattle.fields.proofs.kinds.digit1.Tie as tie
+use Rattle.fields.proofs.families.digit1.Statement.{statement}
+use Rattle.fields.proofs.families.digit1.Tie as tie
 
 returns : tie.Need-returns
 unfolding digit1
