@@ -37,9 +37,28 @@ pub fn whole(random: &mut Random, width: usize, range: RangeInclusive<i64>) -> S
     right(random, width, range, |size| size.to_string())
 }
 
-/// A decimal of a range in tenths.
-pub fn decimal(random: &mut Random, width: usize, range: RangeInclusive<i64>) -> String {
+/// A decimal of a range in tenths, with its point.
+pub fn pointed(random: &mut Random, width: usize, range: RangeInclusive<i64>) -> String {
     right(random, width, range, |size| format!("{}.{}", size / 10, size % 10))
+}
+
+/// A decimal of a range in tenths: as often with a point as without one, where digits
+/// count tenths.
+pub fn decimal(random: &mut Random, width: usize, range: RangeInclusive<i64>) -> String {
+    match random.below(2) {
+        0 => pointed(random, width, range),
+        _ => whole(random, width, range),
+    }
+}
+
+/// A decimal of any size that its columns hold; seldom one that they hold without a point
+/// alone.
+pub fn coordinate(random: &mut Random, width: usize) -> String {
+    let most = |columns: usize| 10_i64.pow(columns as u32) - 1;
+    match random.below(32) {
+        0 => whole(random, width, -most(width - 1)..=most(width)),
+        _ => decimal(random, width, -most(width - 2)..=most(width - 1)),
+    }
 }
 
 /// What may be blank, blank at times.

@@ -2,8 +2,8 @@
 //!
 //! `run` gives the seed and the length of a run. `fields` and `lines` make what
 //! stands in one line, `damage` changes it. `sound` makes whole sets, `media` those of
-//! which a tape can be made, `faults` changes them; `large` has those of full size.
-//! `questions` asks for traces.
+//! which a tape can be made, `spellings` writes their decimals with points or without,
+//! `faults` changes them; `large` has those of full size. `questions` asks for traces.
 
 #![forbid(unsafe_code)]
 
@@ -16,3 +16,4 @@ pub mod media;
 pub mod questions;
 pub mod run;
 pub mod sound;
+pub mod spellings;

@@ -1,7 +1,7 @@
 //! Random lines that obey the rules of form.
 
 use crate::damage::Fields;
-use crate::fields::{decimal, index, name, or_blank, text, whole};
+use crate::fields::{coordinate, decimal, index, name, or_blank, pointed, text, whole};
 use small_sets::{File, Line, Random};
 
 /// The fields of header lines.
@@ -70,7 +70,7 @@ pub fn point(random: &mut Random, file: File) -> Line {
     let static_correction = whole(random, 4, -999..=999);
     let uphole = whole(random, 2, 0..=99);
     let water_depth = match random.below(2) {
-        0 => decimal(random, 4, 0..=999),
+        0 => pointed(random, 4, 0..=999),
         _ => whole(random, 4, 0..=999),
     };
     line.at(29, &or_blank(random, static_correction))
@@ -97,8 +97,8 @@ fn common(random: &mut Random, file: File, code: &str) -> Line {
         .at(2, &name(random, 16))
         .at(26, &index(random))
         .at(27, code)
-        .at(47, &decimal(random, 9, -9_999_999..=99_999_999))
-        .at(56, &decimal(random, 10, -99_999_999..=999_999_999))
+        .at(47, &coordinate(random, 9))
+        .at(56, &coordinate(random, 10))
         .at(66, &decimal(random, 6, -9_999..=99_999))
 }
 

@@ -23,7 +23,8 @@ impl Field<'_> {
         self.number(range, digits)
     }
 
-    /// A decimal within a range, both in tenths.
+    /// A decimal within a range, both in tenths: with a point, or digits alone, which
+    /// count tenths.
     pub fn decimal(self, range: RangeInclusive<i64>) -> Result<i64, Fault> {
         self.number(range, tenths)
     }
@@ -47,7 +48,7 @@ impl Field<'_> {
     /// With a point a decimal up to 99.9, without one whole metres up to 999; in tenths.
     pub fn water_depth(self) -> Result<i64, Fault> {
         if self.bytes.contains(&b'.') {
-            self.decimal(0..=999)
+            self.number(0..=999, pointed)
         } else {
             self.whole(0..=999).map(|metres| metres * 10)
         }
@@ -129,9 +130,14 @@ fn digits(bytes: &[u8]) -> Option<i64> {
 }
 
 /// Digits, a point and exactly one digit, in tenths.
-fn tenths(bytes: &[u8]) -> Option<i64> {
+fn pointed(bytes: &[u8]) -> Option<i64> {
     match bytes {
         [whole @ .., b'.', tenth] => Some(digits(whole)? * 10 + digits(&[*tenth])?),
         _ => None,
     }
+}
+
+/// A decimal of either spelling, in tenths.
+fn tenths(bytes: &[u8]) -> Option<i64> {
+    pointed(bytes).or_else(|| digits(bytes))
 }

@@ -87,7 +87,7 @@ fn numbers() {
     for (text, value) in [("  -0", 0), ("-000", 0), ("  -1", -1), (" 012", 12), ("-999", -999)] {
         assert_eq!(read(29, text).static_correction, Some(value), "{text}");
     }
-    for (text, value) in [(" 0.5", 5), ("00.5", 5), ("99.9", 999)] {
+    for (text, value) in [(" 0.5", 5), ("00.5", 5), ("99.9", 999), ("   5", 5), ("0999", 999)] {
         assert_eq!(read(33, text).depth, value, "{text}");
     }
     for (text, value) in [("9999", 9_999), ("-999", -999), ("0010", 10)] {
@@ -101,11 +101,13 @@ fn numbers() {
         assert_eq!(read(43, text).water_depth, Some(value), "{text}");
     }
     let elevations = [("  -0.5", -5), ("  -0.0", 0), ("-999.9", -9_999), ("9999.9", 99_999)];
-    for (text, value) in elevations {
+    let bare = [("    -5", -5), ("    -0", 0), (" -9999", -9_999), (" 99999", 99_999)];
+    for (text, value) in elevations.into_iter().chain(bare) {
         assert_eq!(read(66, text).elevation, value, "{text}");
     }
     assert_eq!(read(47, "1234567.8").easting, 12_345_678);
     assert_eq!(read(47, "-000000.1").easting, -1);
+    assert_eq!(read(47, "003262601").easting, 3_262_601);
     assert_eq!(read(56, "12345678.9").northing, 123_456_789);
     assert_eq!(read(18, "99999999").place.number, 99_999_999);
     assert_eq!(read(26, " ").place.index, 1);

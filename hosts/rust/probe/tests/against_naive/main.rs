@@ -4,6 +4,7 @@
 //! `PROBE_SEED` gives another seed, and `PROBE_TIMES` so many times the lines.
 
 mod compare;
+mod decimals;
 mod form;
 mod headers;
 mod points;

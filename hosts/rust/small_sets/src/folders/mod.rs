@@ -1,10 +1,11 @@
 //! Small sets as folders for the program `cases`: the rows of the paper's table
-//! that check a set, a set for each refusal number, sets with two faults, and tapes.
+//! that check a set, set A without points, a set for each refusal number, sets with two
+//! faults, and tapes.
 
 mod one_fault;
 mod two_faults;
 
-use crate::table::{paper, tapes};
+use crate::table::{decimals, paper, tapes};
 use crate::{headers_only, set_a, Set};
 
 pub use one_fault::{one_fault, OneFault};
@@ -41,6 +42,7 @@ pub fn folders() -> Vec<Folder> {
         folder("unnamed_shot", paper::unnamed_shot()),
         folder("r_of_81_bytes", paper::r_of_81_bytes()),
         folder("headers_only", headers_only()),
+        folder("no_points", decimals::no_points()),
     ];
     folders.extend(one_fault().iter().map(|case| folder(&case.name(), case.set())));
     folders.extend(two_faults().iter().map(|case| folder(case.name, case.set())));

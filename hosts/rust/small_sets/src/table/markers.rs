@@ -1,4 +1,5 @@
-//! Marker lines (PM): what is checked in them, and that they are no points.
+//! Marker lines (PM): what is checked in them, and that they are no points. `decimals` has
+//! their columns 47 to 71.
 
 use super::write::{accepted, as_a, check, refused};
 use crate::line::{marker, receiver, shot};
@@ -10,21 +11,9 @@ pub fn cases() -> Vec<Case> {
     [checked(), near(), free(), no_points()].concat()
 }
 
-/// Columns 1, 2, 26 to 28 and 47 to 71.
+/// Columns 2 and 26, and values other than those of set A.
 fn checked() -> Vec<Case> {
-    let bad = [
-        (2, " "),
-        (26, "0"),
-        (26, "x"),
-        (47, "         "),
-        (47, "      1  "),
-        (47, "     +1.0"),
-        (56, "          "),
-        (56, "         1"),
-        (66, "      "),
-        (66, "    .5"),
-        (66, "  1.00"),
-    ];
+    let bad = [(2, " "), (26, "0"), (26, "x")];
     let mut cases = Vec::new();
     for file in [R, S] {
         for (column, text) in bad {

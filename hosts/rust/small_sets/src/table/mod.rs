@@ -2,6 +2,7 @@
 
 mod answers;
 mod covers;
+pub mod decimals;
 mod files;
 mod headers;
 mod markers;
@@ -21,11 +22,12 @@ use crate::Case;
 /// A name, and what gives the cases.
 pub type Section = (&'static str, fn() -> Vec<Case>);
 
-pub const SECTIONS: [Section; 14] = [
+pub const SECTIONS: [Section; 15] = [
     ("paper", paper::cases),
     ("files", files::cases),
     ("headers", headers::cases),
     ("points", points::cases),
+    ("decimals", decimals::cases),
     ("markers", markers::cases),
     ("relations", relations::cases),
     ("order", order::cases),

@@ -27,6 +27,29 @@ X100     1111 L1                  5011   1   31L1                   101     1031
     assert_eq!(reason, place + expected);
 }
 
+/// What is said of a field's rule has both spellings of a decimal. Water depth has its own.
+#[test]
+fn decimals() {
+    for (column, text, rule) in [
+        (33, "1000", "36 are the depth: decimal, 0 to 99.9, or tenths 0 to 999 without a point"),
+        (43, "1000", "46 are the water depth: 0 to 99.9, or whole metres 0 to 999, may be blank"),
+        (47, "     1.25", "55 are the easting: decimal, or tenths without a point"),
+        (56, "        +5", "65 are the northing: decimal, or tenths without a point"),
+        (
+            66,
+            "-10000",
+            "71 are the elevation: decimal, -999.9 to 9999.9, or tenths -9999 to 99999 without a \
+             point",
+        ),
+    ] {
+        for (file, line) in [(File::R, below(2)), (File::S, first())] {
+            let (_, verdict, reason) = of("decimals", &set_a().put(file, line, column, text));
+            assert_eq!(verdict, format!("REFUSED 5 {} {line} {column}\n", file.letter()));
+            assert!(reason.contains(&format!("\ncolumns {column} to {rule}\n")), "{reason}");
+        }
+    }
+}
+
 /// A mark below CR and LF, and bytes that are no characters.
 #[test]
 fn strange_bytes() {

@@ -13,6 +13,7 @@ const HEADER: [Field; 2] = [
 const INDEX: &str = "1 to 9, blank is 1";
 const POINT_NUMBER: &str = "whole number, 0 to 99999999";
 const NAME: &str = "its first column is not blank";
+const DECIMAL: &str = "decimal, or tenths without a point";
 
 const POINT: [Field; 14] = [
     (2, 17, "line name", NAME),
@@ -20,13 +21,13 @@ const POINT: [Field; 14] = [
     (26, 26, "point index", INDEX),
     (27, 28, "point code", "G H R in R, V E A W S in S, with a digit 1 to 9; PM or KL in both"),
     (29, 32, "static", "whole number, -999 to 999, may be blank"),
-    (33, 36, "depth", "decimal, 0 to 99.9"),
+    (33, 36, "depth", "decimal, 0 to 99.9, or tenths 0 to 999 without a point"),
     (37, 40, "seismic datum", "whole number, -999 to 9999"),
     (41, 42, "uphole", "whole number, 0 to 99, may be blank"),
     (43, 46, "water depth", "0 to 99.9, or whole metres 0 to 999, may be blank"),
-    (47, 55, "easting", "decimal"),
-    (56, 65, "northing", "decimal"),
-    (66, 71, "elevation", "decimal, -999.9 to 9999.9"),
+    (47, 55, "easting", DECIMAL),
+    (56, 65, "northing", DECIMAL),
+    (66, 71, "elevation", "decimal, -999.9 to 9999.9, or tenths -9999 to 99999 without a point"),
     (72, 74, "day", "whole number, 1 to 999"),
     (75, 80, "time", "six digits, 000000 to 235959, minutes and seconds below 60"),
 ];
