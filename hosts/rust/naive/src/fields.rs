@@ -1,7 +1,8 @@
 //! One field of a line: what it may hold and what it is worth. A field that
 //! breaks its rule is fault 5 at its first column.
 
-use crate::{Fault, Line};
+use crate::codes::is_code;
+use crate::{Fault, File, Line};
 use std::ops::RangeInclusive;
 
 /// The columns of a field, and the first of them.
@@ -86,11 +87,10 @@ impl Field<'_> {
         }
     }
 
-    /// The two bytes of a code that is one of the file's letters with 1 to 9, or KL.
-    pub fn code(self, letters: &[u8]) -> Result<[u8; 2], Fault> {
+    /// The two bytes of a code of the file.
+    pub fn code(self, file: File) -> Result<[u8; 2], Fault> {
         match *self.bytes {
-            [b'K', b'L'] => Ok(*b"KL"),
-            [letter, digit @ b'1'..=b'9'] if letters.contains(&letter) => Ok([letter, digit]),
+            [first, second] if is_code(file, self.bytes) => Ok([first, second]),
             _ => Err(self.fault()),
         }
     }

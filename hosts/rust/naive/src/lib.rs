@@ -5,13 +5,14 @@
 //! with the proved checker. It answers every input, of any length and bytes.
 //!
 //! The way of the data: `lines` cuts a file (1 to 3) and `tape` gives the records of
-//! a tape in ASCII (3 and 29), `fields` reads one field, `point`, `relation` and
-//! `header` read one line (5 and 6), `form` puts a whole file together (1 to 6),
-//! `set` compares the three files (7 to 19) and counts, `traces` answers questions
-//! of an accepted set (20 and 21). `show` and `host` stand apart.
+//! a tape in ASCII (3 and 29), `fields` reads one field and `codes` lists the codes of
+//! points, `point`, `relation` and `header` read one line (5 and 6), `form` puts a whole
+//! file together (1 to 6), `set` compares the three files (7 to 19) and counts, `traces`
+//! answers questions of an accepted set (20 and 21). `show` and `host` stand apart.
 
 #![forbid(unsafe_code)]
 
+mod codes;
 mod fields;
 mod form;
 mod header;

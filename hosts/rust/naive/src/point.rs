@@ -49,16 +49,18 @@ pub enum PointLine {
 pub fn read(file: File, line: &Line) -> Result<PointLine, Fault> {
     let at = |first, last| field(line, first, last);
     if at(27, 28).is(b"PM") {
-        marker(at).map(PointLine::Marker)
+        marker(file, at).map(PointLine::Marker)
     } else {
         point(file, at).map(PointLine::Point)
     }
 }
 
-fn marker<'a>(at: impl Fn(u8, u8) -> Field<'a>) -> Result<Marker, Fault> {
+fn marker<'a>(file: File, at: impl Fn(u8, u8) -> Field<'a>) -> Result<Marker, Fault> {
+    let (name, index) = (at(2, 17).name()?, at(26, 26).one_to_nine()?);
+    at(27, 28).code(file)?;
     Ok(Marker {
-        name: at(2, 17).name()?,
-        index: at(26, 26).one_to_nine()?,
+        name,
+        index,
         easting: at(47, 55).any_decimal()?,
         northing: at(56, 65).any_decimal()?,
         elevation: elevation(at(66, 71))?,
@@ -72,7 +74,7 @@ fn point<'a>(file: File, at: impl Fn(u8, u8) -> Field<'a>) -> Result<Point, Faul
             number: at(18, 25).point()?,
             index: at(26, 26).one_to_nine()?,
         },
-        code: at(27, 28).code(letters(file))?,
+        code: at(27, 28).code(file)?,
         static_correction: at(29, 32).or_blank(|f| f.whole(-999..=999))?,
         depth: at(33, 36).decimal(0..=999)?,
         datum: at(37, 40).whole(-999..=9999)?,
@@ -88,12 +90,4 @@ fn point<'a>(file: File, at: impl Fn(u8, u8) -> Field<'a>) -> Result<Point, Faul
 
 fn elevation(field: Field) -> Result<i64, Fault> {
     field.decimal(-9_999..=99_999)
-}
-
-/// The letters of the codes that carry a digit.
-fn letters(file: File) -> &'static [u8] {
-    match file {
-        File::R => b"GHR",
-        File::S | File::X => b"VEAWS",
-    }
 }

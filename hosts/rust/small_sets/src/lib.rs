@@ -8,6 +8,7 @@
 #![forbid(unsafe_code)]
 
 mod case;
+mod codes;
 mod examples;
 mod folders;
 mod line;
@@ -18,6 +19,7 @@ mod table;
 pub mod tape;
 
 pub use case::{Answer, Case, Question, STAYS};
+pub use codes::codes;
 pub use examples::{examples, Example};
 pub use folders::{folders, one_fault, tape_folders, two_faults, Folder, OneFault, TwoFaults};
 pub use line::{header, marker, receiver, relation, shot, Line};

@@ -2,10 +2,10 @@
 
 use crate::compare::compare;
 use crate::run::{damaged, first_columns, valid};
-use many_sets::lines::{codes, marker, point, OF_POINTS};
+use many_sets::lines::{marker, point, OF_POINTS};
 use many_sets::run::random;
-use naive::File;
-use small_sets::{Line, Random};
+use naive::{Fault, File};
+use small_sets::{codes, Line, Random};
 
 /// One line in eight is a marker.
 fn line(random: &mut Random, file: small_sets::File) -> Line {
@@ -43,20 +43,19 @@ fn damaged_shots() {
     damaged(File::S, 4, shot, OF_POINTS, &first_columns(OF_POINTS));
 }
 
-/// The codes of the other file, and those of no file.
+/// Both readers take the codes of the list; every other is 5 at column 27.
 #[test]
 fn each_code() {
     let mut random = random(5);
     for (file, letter) in [(File::R, small_sets::File::R), (File::S, small_sets::File::S)] {
-        let line = point(&mut random, letter);
-        let mut taken = 0;
-        for first in 0..=255 {
-            for second in 0..=255 {
-                let mut line = line;
-                line.0[26..28].copy_from_slice(&[first, second]);
-                taken += usize::from(compare(file, line).is_ok());
-            }
+        let (mut line, listed) = (point(&mut random, letter), codes(letter));
+        for code in (0..=u16::MAX).map(u16::to_be_bytes) {
+            line.0[26..28].copy_from_slice(&code);
+            let expected = match listed.contains(&code) {
+                true => Ok(()),
+                false => Err(Fault { number: 5, column: 27 }),
+            };
+            assert_eq!(compare(file, line), expected, "{file:?} {}", code.escape_ascii());
         }
-        assert_eq!(taken, 9 * codes(letter).len() + 2, "{file:?}");
     }
 }

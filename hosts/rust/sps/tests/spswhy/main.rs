@@ -3,6 +3,7 @@
 #[path = "../common/program.rs"]
 mod program;
 
+mod codes;
 mod large;
 mod reasons;
 mod tapes;

@@ -71,7 +71,7 @@ pub fn last_two(text: &str) -> [&str; 2] {
 }
 
 /// Of every number that a set is refused for: the file as it is named, the words of
-/// the rule, and the line with its mark where there is one.
+/// the rule, and the line with its mark where there is one. Codes alone have rows.
 #[test]
 fn each_number() {
     let folder = folder("each_number");
@@ -105,6 +105,12 @@ fn each_number() {
             let field = format!("column {column} is the ");
             let fields = format!("columns {column} to ");
             assert!(reason.contains(&field) || reason.contains(&fields), "{reason}");
+            let rows = match (column, file) {
+                (27, 1) => 5,
+                (27, 2) => 7,
+                _ => 0,
+            };
+            assert_eq!(reason.lines().count(), 5 + rows, "{reason}");
         }
     }
     let told = |number| number == 5 || numbers.iter().any(|of| of.0 == number);

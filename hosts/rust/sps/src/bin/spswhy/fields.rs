@@ -15,11 +15,15 @@ const POINT_NUMBER: &str = "whole number, 0 to 99999999";
 const NAME: &str = "its first column is not blank";
 const DECIMAL: &str = "decimal, or tenths without a point";
 
+/// `codes` has the families that a file may have.
+pub const CODE: Field =
+    (27, 28, "point code", "G H R in R, V E A W S in S, with a digit 1 to 9; PM or KL in both");
+
 const POINT: [Field; 14] = [
     (2, 17, "line name", NAME),
     (18, 25, "point number", POINT_NUMBER),
     (26, 26, "point index", INDEX),
-    (27, 28, "point code", "G H R in R, V E A W S in S, with a digit 1 to 9; PM or KL in both"),
+    CODE,
     (29, 32, "static", "whole number, -999 to 999, may be blank"),
     (33, 36, "depth", "decimal, 0 to 99.9, or tenths 0 to 999 without a point"),
     (37, 40, "seismic datum", "whole number, -999 to 9999"),

@@ -3,10 +3,12 @@
 //!
 //! All it knows of sets is what the proved check says. `files` reads the three files,
 //! `reason` puts a refusal into words, `fields` names the field that a column starts,
-//! `text` has the characters of a line, `looks` what a file looks like.
+//! `codes` has the families of codes, `text` the characters of a line, `looks` what a file
+//! looks like.
 
 #![forbid(unsafe_code)]
 
+mod codes;
 mod fields;
 mod files;
 mod looks;

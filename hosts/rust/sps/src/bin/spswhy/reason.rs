@@ -1,6 +1,7 @@
 //! A refusal in words, with the line that it is about.
 
-use crate::fields::field;
+use crate::codes;
+use crate::fields::{field, Field, CODE};
 use crate::files::{width, Named};
 use crate::text::shown;
 use sps::{File, Medium, Number, Refusal};
@@ -34,16 +35,21 @@ fn text_of(medium: Medium, file: &[u8], line: u64) -> Option<Vec<u8>> {
     Some(shown(medium, file.chunks_exact(width(medium)).nth(above)?))
 }
 
-/// Of a field that breaks its rule, its name and the rule.
+/// Of a field that breaks its rule, its name and the rule; of a code then the families that
+/// the file may have.
 fn rule(number: Number, file: File, line: &[u8], column: usize) -> String {
     match field(file, line, column).filter(|_| number == Number::Field) {
-        Some((first, last, name, rule)) if first == last => {
-            format!("column {first} is the {name}: {rule}\n")
-        }
-        Some((first, last, name, rule)) => {
-            format!("columns {first} to {last} are the {name}: {rule}\n")
-        }
+        Some(field) if *field == CODE => told(field) + &codes::rows(file),
+        Some(field) => told(field),
         None => String::new(),
+    }
+}
+
+fn told(&(first, last, name, rule): &Field) -> String {
+    if first == last {
+        format!("column {first} is the {name}: {rule}\n")
+    } else {
+        format!("columns {first} to {last} are the {name}: {rule}\n")
     }
 }
 

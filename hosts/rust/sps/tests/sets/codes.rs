@@ -1,0 +1,58 @@
+//! Each of the 65,536 codes in a line of R and in one of S, on disc and on tape.
+
+use crate::answers::{proved, refused, Answer};
+use small_sets::place::{below, first};
+use small_sets::tape::{byte_of, characters};
+use small_sets::File::{R, S, X};
+use small_sets::{codes, set_a, File, Medium, Set};
+use sps::Accepted;
+
+/// The character of a byte, where the medium takes it.
+fn character(medium: Medium, byte: u8) -> Option<u8> {
+    match medium {
+        Medium::Disc => Some(byte).filter(|byte| (32..=126).contains(byte)),
+        Medium::Tape => characters().find(|&text| byte_of(text) == Some(byte)),
+    }
+}
+
+/// Holds each code of a line. A byte that is not taken is 3 at its column. A code of the
+/// list leaves set A accepted, but PM, which leaves its relation line without a point;
+/// every other is 5 at column 27.
+fn hold(mut set: Set, file: File, line: usize, without: Answer) {
+    let at = set.start(line) + 26;
+    let text: [_; 256] = std::array::from_fn(|byte| character(set.medium, byte as u8));
+    let as_a = Accepted { receivers: 3, shots: 1, relations: 1, traces: 3 };
+    let refused = |number, column| refused(number, file, line as u64, column);
+    let (listed, mut taken) = (codes(file), 0);
+    for code in (0..=u16::MAX).map(u16::to_be_bytes) {
+        let expected = match code.map(|byte| text[usize::from(byte)]) {
+            [None, _] => refused(3, 27),
+            [_, None] => refused(3, 28),
+            [Some(b'P'), Some(b'M')] => without,
+            [Some(first), Some(second)] if listed.contains(&[first, second]) => Ok(as_a),
+            _ => refused(5, 27),
+        };
+        set.file_mut(file)[at..at + 2].copy_from_slice(&code);
+        assert_eq!(proved(&set), expected, "{file:?} {code:?}, {:?}", set.medium);
+        taken += usize::from(expected.is_ok());
+    }
+    assert_eq!(taken, listed.len() - 1, "{file:?}, {:?}", set.medium);
+}
+
+fn media() -> [Set; 2] {
+    [set_a(), set_a().on_tape().expect("characters of a tape")]
+}
+
+/// A marker is no receiver: 18.
+#[test]
+fn each_code_in_r() {
+    let without = refused(18, X, first() as u64, 64);
+    media().into_iter().for_each(|set| hold(set, R, below(2), without));
+}
+
+/// A marker is no shot: 13.
+#[test]
+fn each_code_in_s() {
+    let without = refused(13, X, first() as u64, 14);
+    media().into_iter().for_each(|set| hold(set, S, first(), without));
+}
