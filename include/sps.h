@@ -65,7 +65,7 @@ enum sps_number {
     SPS_BYTE = 3,            /* a byte that is not taken, or no CR or LF at 81, 82 of a disc */
     SPS_LETTER = 4,          /* column 1 is not H or the file's letter, or H after data */
     SPS_FIELD = 5,           /* a field breaks its rule; the column is its first */
-    SPS_CHANNELS = 6,        /* channels or receivers are crossed, or do not fit each other */
+    SPS_CHANNELS = 6,        /* channels are crossed, or do not fit their receivers */
     SPS_HEADER_TYPE = 7,     /* R's header lacks one of the types 00 to 20 */
     SPS_H18 = 8,             /* an H18 that holds nothing, or N/A */
     SPS_HEADER_DIFFERS = 9,  /* the header of S or X differs from R's */

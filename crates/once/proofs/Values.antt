@@ -1,6 +1,5 @@
 -- What the code reads of a relation line.
 --   reach-at   = its reach
---   ordered    = its receivers are in order, and its name is of bytes
 --   meets-is   = what it says of two lines is whether they meet
 --   other-name = lines of other names do not
 use Prim.Native.Nat.{ℕ, _+_}
@@ -15,17 +14,17 @@ use Rattle.rules.specs.Sheet.{Sheet}
 use Rattle.rules.specs.Points.{nameOf as nameIn}
 use Rattle.rules.specs.Relations.{Reach as PaperReach, reach, reachAt}
 use Rattle.rules.specs.Cover.{meet}
-use Rattle.rules.proofs.Form.{data-is}
 use Rattle.lines.specs.declared.Reading.{Reading}
 use Rattle.lines.specs.Reading.{sheetOf}
 use Rattle.lines.proofs.Sheets.{layout-is}
 use Rattle.fields.specs.declared.Name.{Name}
 use Rattle.fields.specs.Packed.{nameOf}
 use Rattle.fields.proofs.Texts.{names-equal}
-use Rattle.records.specs.Coded.{Ordered, codedReach}
+use Rattle.fields.specs.Texts.{Wide}
+use Rattle.records.specs.Coded.{codedReach}
 use Rattle.records.specs.declared.relation.Reach.{Reach}
 use Rattle.form.specs.Known.{owned, Known}
-use Rattle.form.proofs.Known.{formed, receiver-wide}
+use Rattle.form.proofs.Known.{receiver-wide}
 use Rattle.keys.specs.Held.{RelationLine}
 use Rattle.keys.proofs.Owned.{own-wide, names-own}
 
@@ -34,10 +33,6 @@ pub reach-at : (how : Reading) (x : List ℕ) (k : ℕ) (l : List ℕ) (q : Reac
 unfolding reachAt
 reach-at how x k l q e f = f ∙ rw (e, layout-is how x)
 
-pub ordered : (x : Sheet) (k : ℕ) → Known 3 x → RelationLine x k → Ordered (reachAt x k)
-unfolding reachAt
-ordered x k w l = (receiver-wide 3 x w k (l .0), formed 3 x w .rule6 k (l .0) (data-is x k .0 (l .1), refl) .1 .0)
-
 -- two relation lines: t is what the code says of their reaches, or of their names in own bytes
 module _ (how : Reading) (f : List ℕ) (k j : ℕ) (w : Known 3 (sheetOf how f)) (u : RelationLine (sheetOf how f) k) (v : RelationLine (sheetOf how f) j)
     (t : Bool) where
@@ -45,8 +40,8 @@ module _ (how : Reading) (f : List ℕ) (k j : ℕ) (w : Known 3 (sheetOf how f)
   x = sheetOf how f
 
   pub meets-is : (p q : Reach) → p ≡ codedReach (reachAt x k) → q ≡ codedReach (reachAt x j)
-      → ((a b : PaperReach) → p ≡ codedReach a → q ≡ codedReach b → Ordered a → Ordered b → t ≡ meet a b) → t ≡ meet (reachAt x k) (reachAt x j)
-  meets-is p q a b h = h _ _ a b (ordered x k w u) (ordered x j w v)
+      → ((a b : PaperReach) → p ≡ codedReach a → q ≡ codedReach b → Wide (a .receiver) → Wide (b .receiver) → t ≡ meet a b) → t ≡ meet (reachAt x k) (reachAt x j)
+  meets-is p q a b h = h _ _ a b (receiver-wide 3 x w k (u .0)) (receiver-wide 3 x w j (v .0))
 
   module _ (l m : List ℕ) (p q : Name) (a : l ≡ owned x k) (b : p ≡ nameOf (text (cols l 48 (48 + 15)))) (c : m ≡ owned x j)
       (d : q ≡ nameOf (text (cols m 48 (48 + 15)))) (s : t ≡ (eqb (p .hi) (q .hi) && eqb (p .lo) (q .lo))) where

@@ -1,5 +1,5 @@
 // Receivers in the order of name, index and number: the receivers of a relation line are neighbours there. o holds the lines of R in that
-// order; a place of it is a row. 18 takes two looks: the row of the first receiver, and the row of the last, as far behind it as their numbers.
+// order; a place of it is a row. 18 takes two looks: the row of the lowest receiver, and the row of the highest, as far behind it as their numbers.
 ghost use mathlib.Core.Path.{_≡_};
 ghost use Prim.Native.Nat.{_<_};
 ghost use lib.ListN.{length};
@@ -15,6 +15,7 @@ use keys::By;
 use keys::Key;
 use keys::Keyed;
 use lines::Reading;
+use records::cover;
 
 // Row e is not below the key y.
 fn not_below(how: Reading, r: &[u8], o: &[u32], e: usize, y: Key) -> bool
@@ -82,17 +83,18 @@ fn row_of(how: Reading, r: &[u8], o: &[u32], y: Key) -> usize
     o.len()
 }
 
-// The row of the first receiver of relation line k; the number of rows where there is none.
+// The row of the lowest receiver of relation line k; the number of rows where there is none.
 pub fn first_row(how: Reading, r: &[u8], o: &[u32], x: &[u8], k: usize) -> usize
     requires { ⌜ (KnownReceivers (sheetOf how (now r)) × Rows (sheetOf how (now r)) (now o))
         × (Known 3 (sheetOf how (now x)) × RelationLine (sheetOf how (now x)) k) ⌝ }
     ensures value { λ e. ⌜ e ≡ firstRow (sheetOf how (now (r .entry))) (now (o .entry)) (sheetOf how (now (x .entry))) k ⌝ }
 {
-    let from = figures::number(&lines::own_of(how, x, k), 64, 71) as u32;
-    row_of(how, r, o, keys::receiver_key(how, x, k, from))
+    let l = lines::own_of(how, x, k);
+    let low = cover::lower(figures::number(&l, 64, 71), figures::number(&l, 72, 79));
+    row_of(how, r, o, keys::receiver_key(how, x, k, low as u32))
 }
 
-// 18 of relation line k, whose first receiver stands in row e: each of its receivers is there.
+// 18 of relation line k, whose lowest receiver stands in row e: each of its receivers is there.
 pub fn all_there(how: Reading, r: &[u8], o: &[u32], x: &[u8], k: usize, e: usize) -> bool
     requires { ⌜ FirstAt (sheetOf how (now r)) (now o) (sheetOf how (now x)) k e ⌝ }
     ensures value { λ t. ⌜ t ≡ receiversThere (sheetOf how (now (r .entry))) (reachAt (sheetOf how (now (x .entry))) k) ⌝ }
@@ -104,9 +106,10 @@ pub fn all_there(how: Reading, r: &[u8], o: &[u32], x: &[u8], k: usize, e: usize
     let l = lines::own_of(how, x, k);
     let from = figures::number(&l, 64, 71);
     let to = figures::number(&l, 72, 79);
-    let d = (to - from) as usize;
+    let high = cover::higher(from, to);
+    let d = (high - cover::lower(from, to)) as usize;
     if m - e <= d {
         return false;
     }
-    is_row(how, r, o, e + d, keys::receiver_key(how, x, k, to as u32))
+    is_row(how, r, o, e + d, keys::receiver_key(how, x, k, high as u32))
 }

@@ -3,12 +3,21 @@
 use mathlib.Core.Path.{_≡_, refl, sym, _∙_}
 use Rattle.rules.specs.Relations.{Reach as PaperReach}
 use Rattle.outcome.specs.One.{One, alike}
-use Rattle.records.specs.Coded.{Ordered, codedReach}
+use Rattle.fields.specs.Texts.{Wide}
+use Rattle.records.specs.Coded.{codedReach}
 use Rattle.records.specs.declared.relation.Reach.{Reach}
 use Rattle.records.proofs.cover.traces as traces
 use Rattle.records.proofs.cover.traces.Reads as traces-reads
 use Rattle.records.proofs.cover.carries as carries
 use Rattle.records.proofs.cover.carries.Reads as carries-reads
+use Rattle.records.proofs.cover.lower as lower
+use Rattle.records.proofs.cover.lower.Reads as lower-reads
+use Rattle.records.proofs.cover.higher as higher
+use Rattle.records.proofs.cover.higher.Reads as higher-reads
+use Rattle.records.proofs.cover.lowest as lowest
+use Rattle.records.proofs.cover.lowest.Reads as lowest-reads
+use Rattle.records.proofs.cover.highest as highest
+use Rattle.records.proofs.cover.highest.Reads as highest-reads
 use Rattle.records.proofs.cover.receivers as receivers
 use Rattle.records.proofs.cover.receivers.Reads as receivers-reads
 use Rattle.records.proofs.cover.receiver_on as receiver-on
@@ -98,6 +107,18 @@ receiver-on-one κs a v v′ w w′ p p′ = (one-value (a .0) _ v v′ p p′, 
 pub covers-one : One covers.ended covers-reads.Post
 covers-one κs a v v′ w w′ p p′ = (one-value (a .0) _ v v′ p p′, refl)
 
+pub lower-one : One lower.ended lower-reads.Post
+lower-one κs a v v′ w w′ = alike
+
+pub higher-one : One higher.ended higher-reads.Post
+higher-one κs a v v′ w w′ = alike
+
+pub lowest-one : One lowest.ended lowest-reads.Post
+lowest-one κs a v v′ w w′ p p′ = (one-value (a .0) _ v v′ (p .0) (p′ .0), refl)
+
+pub highest-one : One highest.ended highest-reads.Post
+highest-one κs a v v′ w w′ p p′ = (one-value (a .0) _ v v′ (p .0) (p′ .0), refl)
+
 pub leads-one : One leads.ended leads-reads.Post
 leads-one κs a v v′ w w′ p p′ = (one-value (a .0) _ v v′ p p′, refl)
 
@@ -107,11 +128,11 @@ component-one κs a v v′ w w′ p p′ = (one-value (a .0) _ v v′ p p′, re
 pub channel-of-one : One channel-of.ended channel-of-reads.Post
 channel-of-one κs a v v′ w w′ p p′ = (one-value (a .0) _ v v′ p p′, refl)
 
--- that of `meets` is of two such reaches whose names are of bytes and whose receivers are in order
-abbrev InOrder : Reach → Type 0
-InOrder q = (p : PaperReach) × (q ≡ codedReach p) × Ordered p
+-- that of `meets` is of two such reaches whose names are of bytes
+abbrev Named : Reach → Type 0
+Named q = (p : PaperReach) × (q ≡ codedReach p) × Wide (p .receiver)
 
-pub meets-one : One meets.ended (λ κs a v x. (InOrder (a .0) × InOrder (a .1 .0)) × meets-reads.Post κs a v x)
+pub meets-one : One meets.ended (λ κs a v x. (Named (a .0) × Named (a .1 .0)) × meets-reads.Post κs a v x)
 meets-one κs a v v′ w w′ p p′ =
     let s = p .0 .0 in
     let t = p .0 .1 in

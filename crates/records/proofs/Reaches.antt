@@ -1,21 +1,23 @@
 -- What the code computes of a relation line, from the values that it holds.
 --   paperReach q   = a reach of the paper that q codes
-use Prim.Native.Nat.{ℕ, _+_, _-_, _*_, _/_, _%_, _≤_, _<_}
+use Prim.Native.Nat.{ℕ, _+_, _-_, _*_, _/_, _%_, _≤_, _<_, min, max}
 use native.Mathlib.Nat.{div-le-self, mod-le, mul-le-mul-left}
 use native.Mathlib.Omega.{arith}
 use mathlib.Core.Path.{_≡_, sym, ap, ap₂, _∙_}
 use mathlib.Core.Bool.{Bool, true, false, _&&_}
 use mathlib.Core.List.{[], _∷_}
-use lib.Dec.{leb, eqb}
-use borrow.Author.Tests.{le-leb, lt-leb, eq-eqb, ne-eqb}
+use lib.Dec.{leb, ltb, eqb}
+use borrow.Author.Tests.{le-leb, lt-leb, ltb-true, ltb-false, eq-eqb, ne-eqb}
 use Rattle.rules.specs.Names.{Name as PaperName, text, sameName}
 use Rattle.rules.specs.Relations.{Reach as PaperReach}
-use Rattle.rules.specs.Cover.{traces, carries, receivers, receiverOn, covers, leads, component, channelOf, meet}
+use Rattle.rules.specs.Places.{pick}
+use Rattle.rules.specs.Cover.{traces, carries, lowest, highest, receivers, receiverOn, onTo, covers, leads, component, channelOf, meet}
 use Rattle.rules.proofs.Cover.{meet-overlap}
 use Rattle.fields.specs.declared.Name.{Name}
 use Rattle.fields.specs.Packed.{packedAfter, packed, nameOf}
 use Rattle.fields.proofs.Texts.{names-equal}
-use Rattle.records.specs.Coded.{Ordered, codedReach}
+use Rattle.fields.specs.Texts.{Wide}
+use Rattle.records.specs.Coded.{codedReach}
 use Rattle.records.specs.declared.relation.Reach.{Reach}
 
 alone : (n : ℕ) → n ≡ packed (n ∷ [])
@@ -29,7 +31,7 @@ name-coded : (m : Name) → m ≡ nameOf (paperName m)
 unfolding packedAfter
 name-coded m = λ i. record { hi = alone (m .hi) i; lo = alone (m .lo) i }
 
-abbrev paperReach : Reach → PaperReach
+abbrev pub paperReach : Reach → PaperReach
 paperReach q =
     record {
       tape = q .tape ∷ [];
@@ -43,7 +45,7 @@ paperReach q =
       receiverIndex = q .«receiver_index»;
     }
 
-reach-coded : (q : Reach) → q ≡ codedReach (paperReach q)
+pub reach-coded : (q : Reach) → q ≡ codedReach (paperReach q)
 reach-coded q = λ i.
     record {
       tape = alone (q .tape) i;
@@ -103,26 +105,49 @@ module _ (p : PaperReach) (q : Reach) (e : q ≡ codedReach p) where
     carries-from h = let a = from-is in rw (le-leb (p .from) c (omega arith)) (ap (leb c) upto-is)
 
   -- receivers
-  pub receivers-none : q .«to_receiver» < q .«from_receiver» → 0 ≡ receivers p
-  unfolding receivers
-  receivers-none h = let a = first-is in let b = last-is in omega arith
+  pub lowest-is : min (q .«from_receiver») (q .«to_receiver») ≡ lowest p
+  lowest-is = ap₂ min first-is last-is
 
-  pub receivers-some : q .«to_receiver» + 1 - q .«from_receiver» ≡ receivers p
-  unfolding receivers
-  receivers-some = let a = first-is in let b = last-is in omega arith
+  pub highest-is : max (q .«from_receiver») (q .«to_receiver») ≡ highest p
+  highest-is = ap₂ max first-is last-is
 
-  pub receiver-on : (d : ℕ) → q .«from_receiver» + d ≡ receiverOn p d
-  unfolding receiverOn
-  receiver-on d = let a = first-is in omega arith
+  -- by whether they are counted downwards
+  module _ (t : Bool) (d : t ≡ ltb (q .«to_receiver») (q .«from_receiver»)) where
+    down : t ≡ true → p .toReceiver < p .fromReceiver
+    down y = let a = first-is in let b = last-is in let l = ltb-true (q .«to_receiver») (q .«from_receiver») (sym d ∙ y) in omega arith
+
+    up : t ≡ false → p .fromReceiver ≤ p .toReceiver
+    up n = let a = first-is in let b = last-is in let l = ltb-false (q .«to_receiver») (q .«from_receiver») (sym d ∙ n) in omega arith
+
+    module _ (n m : ℕ) where
+      pub on-down : t ≡ true → m ≡ q .«from_receiver» - n → m ≡ receiverOn p n
+      unfolding receiverOn pick
+      on-down y e = let l = down y in e ∙ (rw (lt-leb _ _ l, first-is))
+
+      pub on-up : t ≡ false → q .«from_receiver» + n ≡ receiverOn p n
+      unfolding receiverOn pick
+      on-up f = let l = up f in rw (le-leb _ _ l, first-is)
+
+      pub far-down : t ≡ true → m ≡ q .«from_receiver» - n → m ≡ onTo p n
+      unfolding onTo pick
+      far-down y e = let l = down y in e ∙ (rw (lt-leb _ _ l, first-is))
+
+      pub far-up : t ≡ false → m ≡ n - q .«from_receiver» → m ≡ onTo p n
+      unfolding onTo pick
+      far-up f e = let l = up f in e ∙ (rw (le-leb _ _ l, first-is))
+
+  pub receivers-are : (h l m : ℕ) → h ≡ highest p → l ≡ lowest p → m ≡ h - l → m + 1 ≡ receivers p
+  unfolding receivers
+  receivers-are h l m a b c = rw (c, a, b)
 
   module _ (n : ℕ) where
-    pub covers-before : n < q .«from_receiver» → false ≡ covers p n
+    pub covers-before : (l : ℕ) → l ≡ lowest p → n < l → false ≡ covers p n
     unfolding covers
-    covers-before h = let a = first-is in rw (lt-leb (p .fromReceiver) n (omega arith))
+    covers-before l a h = rw (lt-leb (lowest p) n (omega arith))
 
-    pub covers-from : q .«from_receiver» ≤ n → leb n (q .«to_receiver») ≡ covers p n
+    pub covers-from : (l h : ℕ) → l ≡ lowest p → h ≡ highest p → l ≤ n → leb n h ≡ covers p n
     unfolding covers
-    covers-from h = let a = first-is in rw (le-leb (p .fromReceiver) n (omega arith)) (ap (leb n) last-is)
+    covers-from l h a b g = rw (le-leb (lowest p) n (omega arith)) (ap (leb n) b)
 
   -- from a channel to its receiver and component, and back
   module _ (c : ℕ) where
@@ -134,9 +159,9 @@ module _ (p : PaperReach) (q : Reach) (e : q ≡ codedReach p) where
     unfolding component
     component-is = ap₂ (λ (f i : ℕ). (c - f) % i + 1) from-is step-is
 
-  pub channel-is : (n m : ℕ) → q .from + (n - q .«from_receiver») * q .step + (m - 1) ≡ channelOf p n m
+  pub channel-is : (n m d : ℕ) → d ≡ onTo p n → q .from + d * q .step + (m - 1) ≡ channelOf p n m
   unfolding channelOf
-  channel-is n m = rw (from-is, step-is, first-is)
+  channel-is n m d e = rw (from-is, step-is, e)
 
 -- what keeps them in range
 pub quotient-small : (c f i : ℕ) → c < 4294967296 → (c - f) / i < 4294967296
@@ -145,23 +170,19 @@ quotient-small c f i h = let d = div-le-self (c - f) i in omega arith
 pub remainder-small : (c f i : ℕ) → c < 4294967296 → (c - f) % i < 4294967296
 remainder-small c f i h = let r = mod-le (c - f) i in omega arith
 
-pub product-small : (n f i : ℕ) → n < 4294967296 → i < 256 → (n - f) * i < 1099511627776
-product-small n f i h g = let l : (n - f) * i ≤ (n - f) * 256 = mul-le-mul-left (n - f) (omega arith) in omega arith
+pub product-small : (d i : ℕ) → d < 4294967296 → i < 256 → d * i < 1099511627776
+product-small d i h g = let l : d * i ≤ d * 256 = mul-le-mul-left d (omega arith) in omega arith
 
 -- receivers in common
-module _ (p q : PaperReach) (a b : Reach) (e : a ≡ codedReach p) (f : b ≡ codedReach q) (w : Ordered p) (v : Ordered q) (t : Bool)
+module _ (p q : PaperReach) (a b : Reach) (e : a ≡ codedReach p) (f : b ≡ codedReach q) (w : Wide (p .receiver)) (v : Wide (q .receiver)) (t : Bool)
     (s : t ≡ (eqb (a .receiver .hi) (b .receiver .hi) && eqb (a .receiver .lo) (b .receiver .lo))) where
   one-name : t ≡ sameName (p .receiver) (q .receiver)
   one-name =
       s ∙ ap₂ (λ (m n : Name). eqb (m .hi) (n .hi) && eqb (m .lo) (n .lo)) (name-is p a e) (name-is q b f)
-      ∙ names-equal (p .receiver) (q .receiver) (w .0) (v .0)
+      ∙ names-equal (p .receiver) (q .receiver) w v
 
-  meet-is : (t && (eqb (a .«receiver_index») (b .«receiver_index»)
-      && (leb (a .«from_receiver») (b .«to_receiver») && leb (b .«from_receiver») (a .«to_receiver»))))
-      ≡ meet p q
-  meet-is =
-      rw (one-name, index-is p a e, index-is q b f, first-is p a e, first-is q b f, last-is p a e, last-is q b f)
-      (meet-overlap p q (w .1) (v .1))
+  meet-is : (t && (eqb (a .«receiver_index») (b .«receiver_index») && (leb (lowest p) (highest q) && leb (lowest q) (highest p)))) ≡ meet p q
+  meet-is = rw (one-name, index-is p a e, index-is q b f) (meet-overlap p q)
 
   pub other-name : t ≡ false → false ≡ meet p q
   other-name n = rw n at meet-is
@@ -170,12 +191,12 @@ module _ (p q : PaperReach) (a b : Reach) (e : a ≡ codedReach p) (f : b ≡ co
     pub other-index : (a .«receiver_index» ≡ b .«receiver_index» → ⊥) → false ≡ meet p q
     other-index d = rw (n, ne-eqb (a .«receiver_index») (b .«receiver_index») d) at meet-is
 
-    module _ (i : a .«receiver_index» ≡ b .«receiver_index») where
-      named : (leb (a .«from_receiver») (b .«to_receiver») && leb (b .«from_receiver») (a .«to_receiver»)) ≡ meet p q
+    module _ (i : a .«receiver_index» ≡ b .«receiver_index») (l h : ℕ) (x : l ≡ lowest p) (y : h ≡ highest q) where
+      named : (leb (lowest p) (highest q) && leb (lowest q) (highest p)) ≡ meet p q
       named = rw (n, eq-eqb (a .«receiver_index») (b .«receiver_index») i) at meet-is
 
-      pub ends-before : b .«to_receiver» < a .«from_receiver» → false ≡ meet p q
-      ends-before h = rw (lt-leb (a .«from_receiver») (b .«to_receiver») h) at named
+      pub ends-before : h < l → false ≡ meet p q
+      ends-before g = rw (lt-leb (lowest p) (highest q) (omega arith)) at named
 
-      pub overlaps : a .«from_receiver» ≤ b .«to_receiver» → leb (b .«from_receiver») (a .«to_receiver») ≡ meet p q
-      overlaps h = rw (le-leb (a .«from_receiver») (b .«to_receiver») h) at named
+      pub overlaps : l ≤ h → (m k : ℕ) → m ≡ lowest q → k ≡ highest p → leb m k ≡ meet p q
+      overlaps g m k c d = ap₂ leb c d ∙ (rw (le-leb (lowest p) (highest q) (omega arith)) at named)

@@ -14,7 +14,7 @@ use Rattle.rules.specs.Form.{rule6}
 use Rattle.rules.proofs.Steps.{need-met, need-broken, before-met, before-broken}
 use Rattle.records.specs.Coded.{codedReach}
 use Rattle.records.specs.declared.relation.Reach.{Reach}
-use Rattle.records.proofs.Reaches.{from-is, upto-is, step-is, first-is, last-is, traces-some}
+use Rattle.records.proofs.Reaches.{from-is, upto-is, step-is, traces-some}
 
 by-none : (n : ℕ) → n % 0 ≡ n
 by-none n = let e = div-add-mod n 0 in omega arith
@@ -31,17 +31,7 @@ module _ (k : ℕ) (p : PaperReach) (q : Reach) (e : q ≡ codedReach p) where
     one : leb (p .from) (p .upto) ≡ true
     one = let a = from-is p q e in let b = upto-is p q e in le-leb (p .from) (p .upto) (omega arith)
 
-    pub six-receivers : q .«to_receiver» < q .«from_receiver» → refused (№ 6 3 (k + 1) 64) ≡ run (rule6 sps93 k p)
-    unfolding rule6 sps93
-    six-receivers h =
-        let a = first-is p q e in
-        let b = last-is p q e in
-        before-broken _ _ _ (need-broken _ _ (lt-leb (p .fromReceiver) (p .toReceiver) (omega arith))) ∙ before-met _ _ (need-met _ _ one)
-
-    module _ (r : q .«from_receiver» ≤ q .«to_receiver») (n : ℕ) (t : n ≡ traces p) where
-      two : leb (p .fromReceiver) (p .toReceiver) ≡ true
-      two = let a = first-is p q e in let b = last-is p q e in le-leb (p .fromReceiver) (p .toReceiver) (omega arith)
-
+    module _ (n : ℕ) (t : n ≡ traces p) where
       remainder : n % q .step ≡ traces p % p .step
       remainder = ap₂ _%_ t (step-is p q e)
 
@@ -51,7 +41,7 @@ module _ (k : ℕ) (p : PaperReach) (q : Reach) (e : q ≡ codedReach p) where
       pub six-multiple : (n % q .step ≡ 0 → ⊥) → refused (№ 6 3 (k + 1) 47) ≡ run (rule6 sps93 k p)
       unfolding rule6 sps93
       six-multiple h =
-          before-broken _ _ _ (need-broken _ _ (ne-eqb _ _ (λ z. h (remainder ∙ z)))) ∙ before-met _ _ (need-met _ _ two)
+          before-broken _ _ _ (need-broken _ _ (ne-eqb _ _ (λ z. h (remainder ∙ z))))
           ∙ before-met _ _ (need-met _ _ one)
 
       -- an increment of 0 divides no number of channels
@@ -70,10 +60,10 @@ module _ (k : ℕ) (p : PaperReach) (q : Reach) (e : q ≡ codedReach p) where
           unfolding rule6 sps93
           six-count h =
               need-broken _ _ (ne-eqb _ _ (λ z. h (quotient ∙ z ∙ sym u)))
-              ∙ before-met _ _ (need-met _ _ three) ∙ before-met _ _ (need-met _ _ two) ∙ before-met _ _ (need-met _ _ one)
+              ∙ before-met _ _ (need-met _ _ three) ∙ before-met _ _ (need-met _ _ one)
 
           pub six-fine : n / q .step ≡ j → fine ≡ run (rule6 sps93 k p)
           unfolding rule6 sps93
           six-fine h =
               need-met _ _ (eq-eqb _ _ (sym quotient ∙ h ∙ u))
-              ∙ before-met _ _ (need-met _ _ three) ∙ before-met _ _ (need-met _ _ two) ∙ before-met _ _ (need-met _ _ one)
+              ∙ before-met _ _ (need-met _ _ three) ∙ before-met _ _ (need-met _ _ one)

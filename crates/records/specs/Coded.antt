@@ -4,7 +4,6 @@
 --   rowsOf t     = the table t
 --   noRow        = what stands beyond a table's end
 --   rowFits m l w = the field of row w of line l obeys its rule, or is free in the marker that m says l is
---   Ordered q    = a reach whose name is of bytes, and whose receivers are in order
 --   codedReach q, codedRelation v, codedPoint v = the paper's values as the code holds them
 use Prim.Native.Nat.{ℕ, _≤_}
 use lib.IntN.{ℤ}
@@ -53,9 +52,6 @@ noRow = record { columns = record { first = 0; last = 0 }; kind = startsNonBlank
 
 unfoldable pub rowFits : Bool → List ℕ → PaperRow → Bool
 rowFits m l w = (w .freeInMarker && m) || fits (w .kind) (at l (w .columns))
-
-abbrev pub Ordered : PaperReach → Type 0
-Ordered q = Wide (q .receiver) × (q .fromReceiver ≤ q .toReceiver)
 
 abbrev pub codedReach : PaperReach → Reach
 codedReach q =

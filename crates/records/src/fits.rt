@@ -121,9 +121,6 @@ pub fn rule6(l: &[u8; 80], k: usize) -> Verdict
     if q.upto < q.from {
         return lines::at_line(6, 3, k, 39);
     }
-    if q.to_receiver < q.from_receiver {
-        return lines::at_line(6, 3, k, 64);
-    }
     let n = cover::traces(q);
     let i = q.step as u64;
     if i == 0 {

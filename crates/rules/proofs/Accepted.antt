@@ -77,9 +77,8 @@ module _ (r s x : Sheet) (ok : Meets r s x) where
         first = number-in _ _ _ _ (f .0 (λ e. e .1)) .0;
         most = number-in _ _ _ _ (f .1 .0 (λ e. e .1)) .1;
         channels = c .0;
-        numbers = c .1 .0;
-        even = c .1 .1 .0;
-        fit = c .1 .1 .1;
+        even = c .1 .0;
+        fit = c .1 .1;
       }
 
   -- the channels of one tape and record rise from line to line

@@ -213,6 +213,5 @@ rule6-breaks L k q =
     let g : ℕ → Refusal = № 6 fileX (k + 1) in
     let even = eqb-is (traces q % q .step) 0 in
     next-breaks _ (leb-is (q .from) (q .upto)) (not-leb (q .from) (q .upto)) _ g _ _
-    (next-breaks _ (leb-is (q .fromReceiver) (q .toReceiver)) (not-leb (q .fromReceiver) (q .toReceiver)) _ g _ _
     (next-breaks _ even (contrary even) _ g _ _
-    (last-breaks _ (eqb-is (traces q / q .step) (receivers q)) (contrary (eqb-is (traces q / q .step) (receivers q))) _ g)))
+    (last-breaks _ (eqb-is (traces q / q .step) (receivers q)) (contrary (eqb-is (traces q / q .step) (receivers q))) _ g))

@@ -132,10 +132,7 @@ module _ (M : Medium) (g : Lawful M) where
                 rule5-listed _,
                 λ _ _. (
                   (λ _. listed-at 3 (k + 1) 39 6 refl (omega arith) line refl),
-                  λ _. (
-                    (λ _. listed-at 3 (k + 1) 64 6 refl (omega arith) line refl),
-                    λ _. ((λ _. listed-at 3 (k + 1) 47 6 refl (omega arith) line refl), λ _ _. listed-at 3 (k + 1) 72 6 refl (omega arith) line refl),
-                  ),
+                  λ _. ((λ _. listed-at 3 (k + 1) 47 6 refl (omega arith) line refl), λ _ _. listed-at 3 (k + 1) 72 6 refl (omega arith) line refl),
                 ),
               ),
             ),

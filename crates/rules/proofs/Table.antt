@@ -1,5 +1,5 @@
--- "The (p) cases form a single proved table over the rules as defined": each row marked (p), on set A built from its description; then tapes, and
--- coordinates without a point.
+-- "The (p) cases form a single proved table over the rules as defined": each row marked (p), on set A built from its description; then tapes,
+-- coordinates without a point, and lines laid out backwards.
 use Prim.Native.Nat.{ℕ}
 use Prim.Native.String.{String}
 use mathlib.Core.Path.{_≡_, refl}
@@ -65,6 +65,10 @@ xNames = xOf (relationLine "     501" "   1   11" "1A" "     101     101")
 abbrev lineWith : ℕ → String → List ℕ
 lineWith c t = put c (bytes t) (pointLine "R" "L1" "     101" "G1")
 
+-- set A's line laid out backwards
+abbrev xDown : List ℕ
+xDown = xOf (relationLine "     501" "   1   31" "L1" "     103     101")
+
 abbrev checkWith : ℕ → String → Answer
 checkWith c t = checkA (headers ++ lineWith c t) sA (xOf (relationLine "     501" "   1   11" "L1" "     101     101"))
 
@@ -87,7 +91,10 @@ pub table :
     ∷ checkTape rA sA xA eof
     ∷ checkTape rNames sA xNames []
     ∷ checkWith 47 "003262601"
-    ∷ checkWith 33 "1000" ∷ []
+    ∷ checkWith 33 "1000"
+    ∷ lookupA xDown 11 1
+    ∷ checkA rA sA (xOf (relationLine "     501" "   1   41" "L1" "     103     101"))
+    ∷ checkA rA sA (xOf (lineA ++ relationLine "     501" "   4   61" "L1" "     103     101")) ∷ []
     ≡ trace 23 1
     ∷ noTrace
     ∷ accepted 3 1 1 9
@@ -105,7 +112,10 @@ pub table :
     ∷ refusal (№ 29 fileX 24 0)
     ∷ refusal (№ 10 fileR 23 2)
     ∷ accepted 1 1 1 1
-    ∷ refusal (№ 5 fileR 22 33) ∷ []
+    ∷ refusal (№ 5 fileR 22 33)
+    ∷ trace 24 1
+    ∷ refusal (№ 6 fileX 22 72)
+    ∷ refusal (№ 19 fileX 23 64) ∷ []
 unfolding Places.pick Places.every Places.some Places.least Places.count Places.sum Places.greatest Places.ifBefore Places.isBefore Places.ofLast
     Plan._orElse_ Plan.firstOf Plan.run Text.col Text.front Text.cols Text.same Text.less Text.blank Text.bytes Text.oneOf Numbers.digit
     Numbers.digitsAfter Numbers.digits Numbers.whole Numbers.justified Numbers.negative Numbers.minusOr Numbers.signed Numbers.then Numbers.pointed
@@ -113,7 +123,7 @@ unfolding Places.pick Places.every Places.some Places.least Places.count Places.
     Kinds.water Kinds.isTime Kinds.fits Layout.sps93 Layout.at Sheet.mostLines Disc.printable Disc.byteFits Form.strayFrom Form.stray Form.ending Form.rule29
     Medium.sheet Disc.disc Tape.page Tape.charIn Tape.placeOf Tape.byteIn Tape.tape Names.sameName Names.ranked Names.lessName Lines.letter Lines.isHeader Lines.isMarker Lines.isData Lines.isPoint Lines.heads Points.holds
     Points.nameOf Points.numberOf Points.indexAt Points.point Points.pointAt Points.isAt Points.samePoint Relations.reach Relations.relation
-    Relations.reachAt Relations.relationAt Cover.traces Cover.carries Cover.receivers Cover.receiverOn Cover.covers Cover.leads Cover.component
+    Relations.reachAt Relations.relationAt Cover.traces Cover.carries Cover.receivers Cover.receiverOn Cover.onTo Cover.covers Cover.leads Cover.component
     Cover.channelOf Cover.meet Rows.headerRows Rows.pointRows Rows.relationRows Form.rule1 Form.rule2 Form.rule3 Form.rule4 Form.fieldsFit Form.rule5
     Form.rule6 Form.lineFits Form.form Headers.twoDigits Headers.isType Headers.rule7 Headers.cut Headers.freedBefore Headers.freedAfter
     Headers.projection Headers.rule8 Headers.sameColumns Headers.rule9 Reaches.reachesOf Reaches.ofRecord Reaches.mates Reaches.together Reaches.rises

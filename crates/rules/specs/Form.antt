@@ -71,7 +71,6 @@ rule5 i L k l =
 unfoldable pub rule6 : Layout → ℕ → Reach → Plan
 rule6 L k q =
     need (leb (q .from) (q .upto)) (№ 6 fileX (k + 1) (L .from .first))
-    before need (leb (q .fromReceiver) (q .toReceiver)) (№ 6 fileX (k + 1) (L .fromReceiver .first))
     before need (eqb (traces q % q .step) 0) (№ 6 fileX (k + 1) (L .step .first))
     before need (eqb (traces q / q .step) (receivers q)) (№ 6 fileX (k + 1) (L .toReceiver .first))
 

@@ -37,7 +37,7 @@ published =
     ∷ row 4 (fileR ∷ fileS ∷ fileX ∷ []) (1 to 9999) (only letterColumn)
     ∷ row 5 (fileR ∷ fileS ∷ []) (1 to 9999) (begins (headerRows sps93) ++ begins (pointRows sps93 fileR))
     ∷ row 5 (fileX ∷ []) (1 to 9999) (begins (headerRows sps93) ++ begins (relationRows sps93))
-    ∷ row 6 (fileX ∷ []) (1 to 9999) (only 39 ++ only 64 ++ only 47 ++ only 72)
+    ∷ row 6 (fileX ∷ []) (1 to 9999) (only 39 ++ only 47 ++ only 72)
     ∷ row 7 (fileR ∷ []) (1 to 10000) (only 0)
     ∷ row 8 (fileR ∷ []) (1 to 9999) (only 33)
     ∷ row 9 (fileS ∷ fileX ∷ []) (1 to 10000) ((0 to 80) ∷ [])

@@ -118,11 +118,10 @@ Breach5 i L l c =
     ⊎ ((((Header l → ⊥) × (i ≡ fileX → ⊥)) × FirstOf (Marker L l) l (pointRows L i) c)
     ⊎ (((Header l → ⊥) × (i ≡ fileX)) × FirstOf ⊥ l (relationRows L) c))
 
--- 6: "F > T (39); from receiver > to receiver (64); T-F+1 no multiple of I (47); (T-F+1)/I differs from to - from + 1 receivers (72)"
+-- 6: "F > T (39); T-F+1 no multiple of I (47); (T-F+1)/I differs from .. receivers (72)", "the absolute difference plus 1"
 abbrev pub Counted : Reach → Type 0
 Counted q =
-    (q .from ≤ q .upto)
-    × ((q .fromReceiver ≤ q .toReceiver) × ((traces q % q .step ≡ 0) × (traces q / q .step ≡ receivers q)))
+    (q .from ≤ q .upto) × ((traces q % q .step ≡ 0) × (traces q / q .step ≡ receivers q))
 
 abbrev pub Rule6 : ℕ → Sheet → ℕ → Type 0
 Rule6 i f k = Relates i f k → Counted (reachAt f k)
@@ -131,10 +130,8 @@ abbrev pub Miscounted : Layout → Reach → ℕ → Type 0
 Miscounted L q c =
     ((q .upto < q .from) × (L .from .first ≡ c))
     ⊎ ((q .from ≤ q .upto)
-    × (((q .toReceiver < q .fromReceiver) × (L .fromReceiver .first ≡ c))
-    ⊎ ((q .fromReceiver ≤ q .toReceiver)
     × (((traces q % q .step ≡ 0 → ⊥) × (L .step .first ≡ c))
-    ⊎ ((traces q % q .step ≡ 0) × ((traces q / q .step ≡ receivers q → ⊥) × (L .toReceiver .first ≡ c)))))))
+    ⊎ ((traces q % q .step ≡ 0) × ((traces q / q .step ≡ receivers q → ⊥) × (L .toReceiver .first ≡ c)))))
 
 abbrev pub Breach6 : ℕ → Sheet → ℕ → ℕ → Type 0
 Breach6 i f k c = Relates i f k × Miscounted (f .layout) (reachAt f k) c

@@ -13,6 +13,8 @@ use Rattle.spread.proofs.wanted.is_of as wanted-is-of
 use Rattle.spread.proofs.wanted.is_of.Reads as wanted-is-of-reads
 use Rattle.spread.proofs.wanted.upto_of as wanted-upto-of
 use Rattle.spread.proofs.wanted.upto_of.Reads as wanted-upto-of-reads
+use Rattle.spread.proofs.led.line_to as line-to
+use Rattle.spread.proofs.led.line_to.Reads as line-to-reads
 use Rattle.spread.proofs.numbers.clear as numbers-clear
 use Rattle.spread.proofs.numbers.clear.Reads as numbers-clear-reads
 use Rattle.spread.proofs.numbers.put as numbers-put
@@ -29,6 +31,7 @@ use Rattle.spread.proofs.components.put as components-put
 use Rattle.spread.proofs.components.put.Reads as components-put-reads
 use Rattle.spread.proofs.components.put_all as components-put-all
 use Rattle.spread.proofs.components.put_all.Reads as components-put-all-reads
+use Rattle.records.proofs.Reaches.{one-value}
 
 pub highest-one : One highest.ended highest-reads.Post
 highest-one κs a v v′ w w′ = alike
@@ -49,6 +52,9 @@ wanted-is-of-one κs a v v′ w w′ = alike
 
 pub wanted-upto-of-one : One wanted-upto-of.ended wanted-upto-of-reads.Post
 wanted-upto-of-one κs a v v′ w w′ = alike
+
+pub line-to-one : One line-to.ended line-to-reads.Post
+line-to-one κs a v v′ w w′ p p′ = (one-value (a .0) _ v v′ (p .0) (p′ .0), refl)
 
 pub numbers-clear-one : One numbers-clear.ended numbers-clear-reads.Post
 numbers-clear-one κs a v v′ w w′ p p′ = (refl, both refl (both (p ∙ sym p′) refl))

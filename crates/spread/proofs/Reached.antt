@@ -9,7 +9,7 @@ use lib.ListN.{length}
 use borrow.Author.Tests.{leb-true, le-leb, ltb-true, lt-ltb}
 use Rattle.rules.specs.Sheet.{Sheet, mostLines}
 use Rattle.rules.specs.Relations.{Reach, reachAt}
-use Rattle.rules.specs.Cover.{receivers, receiverOn, carries, leads, component}
+use Rattle.rules.specs.Cover.{lowest, highest, receivers, carries, leads, component}
 use Rattle.rules.specs.Order.{receiverLine}
 use Rattle.rules.specs.Spread.{Put}
 use Rattle.rules.proofs.Tests.{agree, and-is}
@@ -23,14 +23,11 @@ use Rattle.records.specs.declared.relation.Reach.{Reach as ReachValues}
 use Rattle.receivers.specs.Rows.{Rows, firstRow}
 use Rattle.receivers.proofs.There.{stand, row-line}
 use Rattle.spread.specs.Asked.{Accepted}
+use Rattle.spread.specs.RowLine.{rowLine, Led}
 use Rattle.spread.specs.Taken.{taken, between, lineIn}
 use Rattle.spread.proofs.Places.{Places}
 use Rattle.spread.proofs.Taken.{taken-as}
 use Rattle.spread.proofs.Asked.{known-receivers, sound-line, all-there}
-
--- the R line of the receiver that a channel leads to, where the first one's row is e
-abbrev pub rowLine : List ℕ → ℕ → ℕ → Reach → ℕ → ℕ
-rowLine o e first p c = nth o (e + (leads p c - first)) + 1
 
 -- what the code knows of a reach
 pub record Ranges (q : ReachValues) : Type 0 where
@@ -39,6 +36,16 @@ pub record Ranges (q : ReachValues) : Type 0 where
   pub most : q .upto < 100000000
   pub one : 1 ≤ q .step
   pub few : q .step ≤ 9
+
+-- what the walk over its channels rests on: m places, and a row for each channel before `end`
+pub record Walk (q : ReachValues) (o : List ℕ) (e end m : ℕ) : Type 0 where
+  pub first : 1 ≤ q .from
+  pub room : end ≤ m + 1
+  pub led : (c : ℕ) → q .from ≤ c → c < end → Led q o e c
+
+-- a number between two others, counted from the lower
+from-lowest : (lo hi n : ℕ) → lo ≤ n → n ≤ hi → (n - lo < hi - lo + 1) × (lo + (n - lo) ≡ n)
+from-lowest lo hi n a b = (omega arith, omega arith)
 
 module _ (r x : Sheet) (ok : Accepted r x) (k : ℕ) (h : RelationLine x k) (q : ReachValues) (e : q ≡ codedReach (reachAt x k)) where
   abbrev p : Reach
@@ -81,41 +88,39 @@ module _ (r x : Sheet) (ok : Accepted r x) (k : ℕ) (h : RelationLine x k) (q :
     component-small = let m = arrives .1 .1 in let w = sound-line r x ok k h .few in omega arith
 
     -- its receiver
-    module _ (n : ℕ) (en : n ≡ leads p c) (o : List ℕ) (v : Rows r o) (row : ℕ) (er : row ≡ firstRow r o x k) where
-      pub first-below : q .«from_receiver» ≤ n
-      first-below = let w = arrives .0 .0 in rw e (omega arith)
-
-      after : n - q .«from_receiver» < receivers p
+    module _ (o : List ℕ) (v : Rows r o) (row : ℕ) (er : row ≡ firstRow r o x k) where
+      far : (leads p c - lowest p < receivers p) × (lowest p + (leads p c - lowest p) ≡ leads p c)
       unfolding receivers
-      after = let w = arrives .0 .1 in let y = arrives .0 .0 in rw e (omega arith)
+      far = from-lowest (lowest p) (highest p) (leads p c) (arrives .0 .0) (arrives .0 .1)
 
-      on : receiverOn p (n - q .«from_receiver») ≡ leads p c
-      unfolding receiverOn
-      on = let y = arrives .0 .0 in rw e (omega arith)
+      inside : row + (leads p c - lowest p) < length o
+      inside =
+          rw er
+          (stand r o (known-receivers r x ok) v x k (ok .relations) (ok .alike) h (all-there r x ok k h) (leads p c - lowest p) (far .0) .0)
 
-      pub row-inside : row + (n - q .«from_receiver») < length o
-      row-inside =
-          let s = stand r o (known-receivers r x ok) v x k (ok .relations) (ok .alike) h (all-there r x ok k h) (n - q .«from_receiver») after .0 in
-          omega arith
+      led : Led q o row c
+      led =
+          let w = ranges in
+          let t = w .most in
+          record {
+            reach = p;
+            coded = e;
+            begun = a;
+            small = omega arith;
+            one = w .one;
+            above = arrives .0 .0;
+            inside = inside;
+            few = let y = ok .receivers .few in let z = v .own (row + (leads p c - lowest p)) inside in omega arith;
+          }
 
-      pub row-low : row + (n - q .«from_receiver») < 9999
-      unfolding mostLines
-      row-low =
-          let w = row-inside in
-          let l = v .few in
-          let y = ok .receivers .few in
-          omega arith
-
-      pub row-few : nth o (row + (n - q .«from_receiver»)) < 9999
-      unfolding mostLines
-      row-few =
-          let w = v .own (row + (n - q .«from_receiver»)) row-inside in
-          let y = ok .receivers .few in
-          omega arith
-
-      pub row-is : nth o (row + (n - q .«from_receiver»)) + 1 ≡ lineIn r x k c
+      pub row-is : rowLine o row p c ≡ lineIn r x k c
       row-is =
           ap (λ (i : ℕ). i + 1)
-          (ap (λ (i : ℕ). nth o (i + (n - q .«from_receiver»))) er
-          ∙ row-line r o (known-receivers r x ok) v x k (ok .relations) (ok .alike) h (all-there r x ok k h) (n - q .«from_receiver») after
-          ∙ ap (receiverLine r p) on)
+          (ap (λ (i : ℕ). nth o (i + (leads p c - lowest p))) er
+          ∙ row-line r o (known-receivers r x ok) v x k (ok .relations) (ok .alike) h (all-there r x ok k h) (leads p c - lowest p) (far .0)
+          ∙ ap (receiverLine r p) (far .1))
+
+  pub walk : (o : List ℕ) → Rows r o → (row : ℕ) → row ≡ firstRow r o x k → (end m : ℕ) → end ≡ q .upto + 1 → p .upto ≤ m → Walk q o row end m
+  walk o v row er end m z g =
+      let u = ap (λ (q : ReachValues). q .upto) e in
+      record { first = ranges .first; room = omega arith; led = λ c a b. led c a (omega arith) o v row er }

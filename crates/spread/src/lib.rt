@@ -18,6 +18,7 @@ use lines::Reading;
 mod bytes;
 mod components;
 mod numbers;
+mod led;
 pub mod wanted;
 
 // The record's highest covered channel; 0 where the record is absent.

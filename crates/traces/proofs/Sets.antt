@@ -27,7 +27,7 @@ use Rattle.rules.proofs.Cover.{reached, carries-is}
 use Rattle.lines.specs.Reading.{sheetOf}
 use Rattle.lines.specs.declared.Reading.{Reading}
 use Rattle.lines.proofs.Sheets.{layout-is, rank-same}
-use Rattle.form.proofs.Known.{known, to-receiver-small, upto-small}
+use Rattle.form.proofs.Known.{known, from-receiver-small, to-receiver-small, upto-small}
 use Rattle.records.specs.Coded.{codedReach}
 use Rattle.records.specs.declared.relation.Reach.{Reach as Numbers}
 use Rattle.keys.specs.Held.{RelationLine}
@@ -139,7 +139,8 @@ module _ (r x : Sheet) (ok : Accepted r x) (k c : ℕ) (h : RelationLine x k) (y
   pub leads-small : leads (reachAt x k) c < 100000000
   leads-small =
       let a = arrives .0 .1 in
-      let b = to-receiver-small 3 x (ok .relations) k (h .0) in
+      let b = from-receiver-small 3 x (ok .relations) k (h .0) in
+      let d = to-receiver-small 3 x (ok .relations) k (h .0) in
       omega arith
 
   pub component-small : component (reachAt x k) c ≤ 9

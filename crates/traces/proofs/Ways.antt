@@ -86,15 +86,14 @@ module _ (r x : Sheet) (i k m : ℕ) (wr : ReceiverLine r i) (wx : Known 3 x)
 -- the channel of a line that reaches the receiver
 module _ (r x : Sheet) (ok : Accepted r x) (i k m : ℕ) (wr : ReceiverLine r i) (h : RelationLine x k)
     (t : reaches (pointAt r i) m (reachAt x k) ≡ true) (q : Numbers) (f : q ≡ codedReach (reachAt x k)) (n : ℕ) (en : n ≡ pointAt r i .number) where
-  pub may-return : (q .«from_receiver» ≤ n) × ((n < 4294967296) × ((q .step < 256) × ((1 ≤ m) × (m < 4294967296))))
+  pub may-return : (n < 4294967296) × ((q .step < 256) × ((1 ≤ m) × (m < 4294967296)))
   may-return =
       let v = leads-is (pointAt r i) m (reachAt x k) .0 t .1 .1 in
-      let a = v .0 .0 in
       let b = point-number 1 r (wr .0) i (wr .1 .0) in
       let d = sound-line r x ok k h .few in
       let o = v .1 .0 in
       let u = v .1 .1 in
-      rw f (omega arith, (omega arith, (omega arith, (o, omega arith))))
+      rw f (omega arith, (omega arith, (o, omega arith)))
 
   pub channel-small : channelOf (reachAt x k) (pointAt r i .number) m < 4294967296
   channel-small =

@@ -1,27 +1,25 @@
 -- `records::cover::receivers` meets its contract. Assumes nothing.
-use Rattle.records.proofs.Reaches.{receivers-none, receivers-some}
 use borrow.Author.Needs.{needs}
+use Rattle.records.proofs.Reaches.{receivers-are}
 use Rattle.records.proofs.cover.receivers.Statement.{statement}
 use Rattle.records.proofs.cover.receivers.Tie as tie
 
-returns : tie.Need-returns
-returns c = λ p e. receivers-none p _ e (c .if1 .taken)
+highest-requires : tie.Need-highest-requires
+highest-requires c κs = search needs
 
-cast-result : tie.Need-cast-result
-cast-result c = search needs
+lowest-requires : tie.Need-lowest-requires
+lowest-requires c κs = search needs
+
+less-requires : tie.Need-less-requires
+less-requires c κs = search needs
 
 add-result : tie.Need-add-result
 add-result c = search needs
 
-cast-result-2 : tie.Need-cast-result-2
-cast-result-2 c = search needs
-
-sub-result : tie.Need-sub-result
-sub-result c = search needs
-
-returns-2 : tie.Need-returns-2
-returns-2 c = λ p e. receivers-some p _ e
+returns : tie.Need-returns
+returns c =
+    λ p e. receivers-are p _ e _ _ _ (c .before .before .highest .ensures .0 p e) (c .before .lowest .ensures .0 p e) (c .less .ensures)
 
 pub receivers-spec : {M : Type 1} → statement M
 receivers-spec =
-    tie.close (tie.spec returns cast-result add-result cast-result-2 sub-result returns-2)
+    tie.close (tie.spec highest-requires lowest-requires less-requires add-result returns)

@@ -1,5 +1,5 @@
 -- `records::fits::rule6` meets its contract. Assumes nothing.
-use Rattle.records.proofs.Six.{six-channels, six-count, six-fine, six-multiple, six-none, six-receivers}
+use Rattle.records.proofs.Six.{six-channels, six-count, six-fine, six-multiple, six-none}
 use Rattle.rules.specs.Layout.{sps93}
 use Rattle.rules.specs.Relations.{reach}
 use mathlib.Core.Path.{_∙_}
@@ -23,6 +23,12 @@ returns c =
     let e = r .reach-of .ensures in
     c .at-line .ensures ∙ six-channels _ p _ e (d .if1 .taken)
 
+traces-requires : tie.Need-traces-requires
+traces-requires c κs = search needs
+
+cast-i : tie.Need-cast-i
+cast-i c = search needs
+
 at-line-requires-2 : tie.Need-at-line-requires-2
 unfolding mostLines
 at-line-requires-2 c κs = search needs
@@ -30,16 +36,13 @@ at-line-requires-2 c κs = search needs
 returns-2 : tie.Need-returns-2
 returns-2 c =
     let d = c .before in
-    let r = d .before .before .before .before in
+    let r = d .before .before .before .before .before in
     let p = reach sps93 (r .before .args .l .now) in
     let e = r .reach-of .ensures in
-    c .at-line2 .ensures ∙ six-receivers _ p _ e (d .before .before .if1 .left) (d .if2 .taken)
+    c .at-line2 .ensures ∙ six-none _ p _ e (d .before .before .before .if1 .left) _ (d .before .before .traces .ensures p e) (d .if2 .taken)
 
-traces-requires : tie.Need-traces-requires
-traces-requires c κs = search needs
-
-cast-i : tie.Need-cast-i
-cast-i c = search needs
+rem-if3 : tie.Need-rem-if3
+rem-if3 c = search needs
 
 at-line-requires-3 : tie.Need-at-line-requires-3
 unfolding mostLines
@@ -48,14 +51,17 @@ at-line-requires-3 c κs = search needs
 returns-3 : tie.Need-returns-3
 returns-3 c =
     let d = c .before in
-    let r = d .before .before .before .before .before .before .before in
+    let r = d .before .before .before .before .before .before in
     let p = reach sps93 (r .before .args .l .now) in
     let e = r .reach-of .ensures in
-    c .at-line3 .ensures ∙ six-none _ p _ e (d .before .before .before .before .before .if1 .left) (d .before .before .before .if2 .left) _
-    (d .before .before .traces .ensures p e) (d .if3 .taken)
+    c .at-line3 .ensures ∙ six-multiple _ p _ e (d .before .before .before .before .if1 .left) _
+    (d .before .before .before .traces .ensures p e) (d .if3 .taken)
 
-rem-if4 : tie.Need-rem-if4
-rem-if4 c = search needs
+div-if4 : tie.Need-div-if4
+div-if4 c = search needs
+
+receivers-requires : tie.Need-receivers-requires
+receivers-requires c κs = search needs
 
 at-line-requires-4 : tie.Need-at-line-requires-4
 unfolding mostLines
@@ -67,37 +73,18 @@ returns-4 c =
     let r = d .before .before .before .before .before .before .before .before in
     let p = reach sps93 (r .before .args .l .now) in
     let e = r .reach-of .ensures in
-    c .at-line4 .ensures ∙ six-multiple _ p _ e (d .before .before .before .before .before .before .if1 .left)
-    (d .before .before .before .before .if2 .left) _ (d .before .before .before .traces .ensures p e) (d .if4 .taken)
-
-div-if5 : tie.Need-div-if5
-div-if5 c = search needs
-
-receivers-requires : tie.Need-receivers-requires
-receivers-requires c κs = search needs
-
-at-line-requires-5 : tie.Need-at-line-requires-5
-unfolding mostLines
-at-line-requires-5 c κs = search needs
+    c .at-line4 .ensures ∙ six-count _ p _ e (d .before .before .before .before .before .before .if1 .left) _
+    (d .before .before .before .before .before .traces .ensures p e)
+    (d .before .before .if3 .left) _ (d .before .receivers .ensures p e) (d .if4 .taken)
 
 returns-5 : tie.Need-returns-5
 returns-5 c =
-    let d = c .before in
-    let r = d .before .before .before .before .before .before .before .before .before .before in
-    let p = reach sps93 (r .before .args .l .now) in
-    let e = r .reach-of .ensures in
-    c .at-line5 .ensures ∙ six-count _ p _ e (d .before .before .before .before .before .before .before .before .if1 .left)
-    (d .before .before .before .before .before .before .if2 .left) _ (d .before .before .before .before .before .traces .ensures p e)
-    (d .before .before .if4 .left) _ (d .before .receivers .ensures p e) (d .if5 .taken)
-
-returns-6 : tie.Need-returns-6
-returns-6 c =
     let b = c .before .before .before .before .before in
-    let r = b .before .before .before .before .before in
+    let r = b .before .before .before in
     let p = reach sps93 (r .before .args .l .now) in
     let e = r .reach-of .ensures in
-    six-fine _ p _ e (b .before .before .before .if1 .left) (b .before .if2 .left) _ (b .traces .ensures p e) (c .before .before .if4 .left) _
-    (c .before .receivers .ensures p e) (c .if5 .left)
+    six-fine _ p _ e (b .before .if1 .left) _ (b .traces .ensures p e) (c .before .before .if3 .left) _
+    (c .before .receivers .ensures p e) (c .if4 .left)
 
 pub rule6-spec : {M : Type 1} → statement M
 rule6-spec =
@@ -106,17 +93,15 @@ rule6-spec =
     reach-of-requires
     at-line-requires
     returns
-    at-line-requires-2
-    returns-2
     traces-requires
     cast-i
+    at-line-requires-2
+    returns-2
+    rem-if3
     at-line-requires-3
     returns-3
-    rem-if4
+    div-if4
+    receivers-requires
     at-line-requires-4
     returns-4
-    div-if5
-    receivers-requires
-    at-line-requires-5
-    returns-5
-    returns-6)
+    returns-5)
