@@ -3,10 +3,12 @@
 //! `run` gives the seed and the length of a run. `fields` and `lines` make what
 //! stands in one line, `damage` changes it. `sound` makes whole sets, `media` those of
 //! which a tape can be made, `spellings` writes their decimals with points or without,
-//! `faults` changes them; `large` has those of full size. `questions` asks for traces.
+//! `backwards` lays their spreads out backwards, `faults` changes them; `large` has those of
+//! full size. `questions` asks for traces.
 
 #![forbid(unsafe_code)]
 
+pub mod backwards;
 pub mod damage;
 pub mod faults;
 pub mod fields;

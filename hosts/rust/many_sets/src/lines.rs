@@ -106,7 +106,7 @@ pub fn time(random: &mut Random) -> String {
     format!("{:02}{:02}{:02}", random.below(24), random.below(60), random.below(60))
 }
 
-/// A relation line whose channels and receivers agree.
+/// A relation line whose channels and receivers agree; half of them descend.
 pub fn relation(random: &mut Random) -> Line {
     let increment = index(random);
     let components = increment.parse().unwrap_or(1);
@@ -114,11 +114,11 @@ pub fn relation(random: &mut Random) -> Line {
     let most = (9_999 - from_channel + 1) / components;
     let receivers = 1 + random.below(most);
     let to_channel = from_channel + receivers * components - 1;
-    let from_receiver = random.below(99_999_999 - receivers + 2);
-    let to_receiver = from_receiver + receivers - 1;
+    let lowest = random.below(99_999_999 - receivers + 2);
+    let ends = either_way(random, lowest, lowest + receivers - 1);
     let mut exactly = |width, number: usize| whole(random, width, number as i64..=number as i64);
     let channels = [exactly(4, from_channel), exactly(4, to_channel)];
-    let numbers = [exactly(8, from_receiver), exactly(8, to_receiver)];
+    let numbers = ends.map(|end| exactly(8, end));
     Line([b' '; 80])
         .at(1, "X")
         .at(2, &name(random, 6))
@@ -133,4 +133,12 @@ pub fn relation(random: &mut Random) -> Line {
         .at(48, &name(random, 16))
         .at(64, &numbers.concat())
         .at(80, &index(random))
+}
+
+/// From and to receiver by the lowest and the highest, as often counted up as down.
+pub fn either_way<T>(random: &mut Random, lowest: T, highest: T) -> [T; 2] {
+    match random.below(2) {
+        0 => [lowest, highest],
+        _ => [highest, lowest],
+    }
 }

@@ -2,6 +2,7 @@
 
 use crate::fields::field;
 use crate::{Fault, Line, Place};
+use std::ops::RangeInclusive;
 
 /// The relation between the channels of a record and receivers.
 #[derive(Clone, Copy, Debug, PartialEq, Eq)]
@@ -57,15 +58,12 @@ impl Relation {
         if self.from_channel > self.to_channel {
             return Some(39);
         }
-        if self.from_receiver > self.to_receiver {
-            return Some(64);
-        }
         let channels = u32::from(self.to_channel - self.from_channel) + 1;
         let increment = u32::from(self.channel_increment);
         if channels % increment != 0 {
             return Some(47);
         }
-        let receivers = self.to_receiver - self.from_receiver + 1;
+        let receivers = self.from_receiver.abs_diff(self.to_receiver) + 1;
         (channels / increment != receivers).then_some(72)
     }
 
@@ -79,9 +77,23 @@ impl Relation {
         (self.tape, self.record)
     }
 
+    /// Whether its receivers are counted downwards.
+    fn descends(&self) -> bool {
+        self.from_receiver > self.to_receiver
+    }
+
+    /// The numbers of the receivers it covers, whichever way they are counted.
+    fn numbers(&self) -> RangeInclusive<u32> {
+        if self.descends() {
+            self.to_receiver..=self.from_receiver
+        } else {
+            self.from_receiver..=self.to_receiver
+        }
+    }
+
     /// The receivers it covers.
     pub(crate) fn covered(&self) -> impl Iterator<Item = Place> + '_ {
-        (self.from_receiver..=self.to_receiver).map(|number| self.receiver(number))
+        self.numbers().map(|number| self.receiver(number))
     }
 
     /// The receiver and component that a channel leads to.
@@ -91,20 +103,25 @@ impl Relation {
         }
         let step = channel - self.from_channel;
         let increment = u16::from(self.channel_increment);
-        let number = self.from_receiver + u32::from(step / increment);
+        let receivers = u32::from(step / increment);
+        let number = if self.descends() {
+            self.from_receiver - receivers
+        } else {
+            self.from_receiver + receivers
+        };
         Some((self.receiver(number), (step % increment) as u8 + 1))
     }
 
     /// The channel that leads to a receiver and component.
     pub(crate) fn channel_of(&self, receiver: Place, component: u8) -> Option<u16> {
-        let inside = (self.from_receiver..=self.to_receiver).contains(&receiver.number);
+        let inside = self.numbers().contains(&receiver.number);
         if !inside || receiver != self.receiver(receiver.number) {
             return None;
         }
         if component > self.channel_increment {
             return None;
         }
-        let receivers = (receiver.number - self.from_receiver) as u16;
+        let receivers = self.from_receiver.abs_diff(receiver.number) as u16;
         let step = receivers * u16::from(self.channel_increment) + u16::from(component) - 1;
         Some(self.from_channel + step)
     }

@@ -21,7 +21,7 @@ fn may_name(number: u8, file: File, column: u8) -> bool {
         (4, _) | (15, S) => column == 1,
         (5, R | S) => OF_POINTS.contains(&column),
         (5, X) => OF_RELATIONS.contains(&column),
-        (6, X) => [39, 64, 47, 72].contains(&column),
+        (6, X) => [39, 47, 72].contains(&column),
         (8, R) => column == 33,
         (9, S | X) => column <= 80,
         (10, R) | (12, S) | (16, X) => column == 2,

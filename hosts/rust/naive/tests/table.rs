@@ -47,6 +47,6 @@ macro_rules! sections {
 }
 
 sections! {
-    paper files headers points decimals markers relations order records covers questions
-    pairs_of_form pairs_of_set answers tapes
+    paper files headers points decimals markers relations order records covers backwards
+    questions pairs_of_form pairs_of_set answers tapes
 }

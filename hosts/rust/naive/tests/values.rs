@@ -179,12 +179,27 @@ fn a_relation_with_every_field() {
     assert_eq!(read_relation(&line.0), Ok(expected));
 }
 
+/// From and to receiver are kept as they are written, also where they descend.
+#[test]
+fn a_relation_laid_out_backwards() {
+    let read = |from, to| read_relation(&relation().receivers(from, to).0).expect("a relation");
+    for (from_receiver, to_receiver) in [(103, 101), (2, 0), (99_999_999, 99_999_997)] {
+        let expected = Relation { from_receiver, to_receiver, ..read(101, 103) };
+        assert_eq!(read(from_receiver, to_receiver), expected);
+    }
+}
+
 #[test]
 fn faults_name_number_and_column() {
     let fault = |number, column| Fault { number, column };
     let of = |line: Line| read_relation(&line.0);
     assert_eq!(of(relation().at(38, "0")), Err(fault(5, 38)));
     assert_eq!(of(relation().channels(2, 1)), Err(fault(6, 39)));
+    assert_eq!(of(relation().channels(2, 1).receivers(103, 101)), Err(fault(6, 39)));
+    assert_eq!(of(relation().increment("2").receivers(103, 101)), Err(fault(6, 47)));
+    assert_eq!(of(relation().receivers(104, 101)), Err(fault(6, 72)));
+    assert_eq!(of(relation().receivers(102, 101)), Err(fault(6, 72)));
+    assert_eq!(of(relation().receivers(99_999_999, 0)), Err(fault(6, 72)));
     let of = |file, line: Line| read_point(file, &line.0);
     assert_eq!(of(File::R, shot(501)), Err(fault(5, 27)));
     assert_eq!(of(File::S, receiver(101)), Err(fault(5, 27)));

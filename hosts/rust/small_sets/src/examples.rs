@@ -1,9 +1,9 @@
-//! Sets of the paper's table, and one in another spelling, as folders to look at, with the
-//! program's line.
+//! Sets of the paper's table, one in another spelling and one laid out backwards, as folders
+//! to look at, with the program's line.
 
 use crate::place::{below, first};
 use crate::table::write::{accepted, as_a, refused};
-use crate::table::{decimals, paper};
+use crate::table::{backwards, decimals, paper};
 use crate::File::{R, S, X};
 use crate::{headers_only, set_a, Answer, Set};
 
@@ -37,6 +37,7 @@ pub fn examples() -> Vec<Example> {
         example("set_a", set_a(), as_a()),
         example("set_a_tape", set_a().on_tape().expect("characters of a tape"), as_a()),
         example("no_points", decimals::no_points(), as_a()),
+        example("backwards", backwards::backwards(), as_a()),
         example("three_components", paper::three_components(), accepted(3, 1, 1, 9)),
         example("headers_only", headers_only(), accepted(0, 0, 0, 0)),
         example("moved_name", paper::moved_name(), refused(5, X, first(), 14)),

@@ -24,8 +24,7 @@ pub enum Number {
     Letter,
     /// 5: a field breaks its rule; the column is its first.
     Field,
-    /// 6: the channels or the receivers of a relation line are crossed, or do not
-    /// fit each other.
+    /// 6: the channels of a relation line are crossed, or do not fit its receivers.
     Channels,
     /// 7: R's header lacks one of the types 00 to 20.
     HeaderType,
@@ -161,9 +160,9 @@ impl Number {
             Letter => "column 1 is not H or the file's own letter, or an H line stands after data",
             Field => "a field breaks its rule",
             Channels => {
-                "the from channel is above the to channel (column 39), the from receiver is above \
-                 the to receiver (64), the number of channels is no multiple of the channel \
-                 increment (47), or does not lead to as many receivers as are named (72)"
+                "the from channel is above the to channel (column 39), the number of channels is \
+                 no multiple of the channel increment (47), or does not lead to as many receivers \
+                 as are named, counted up or down (72)"
             }
             HeaderType => "the header of R lacks one of the types H00 to H20",
             H18 => "an H18 line says nothing, or N/A, in columns 33 to 80 before a semicolon",

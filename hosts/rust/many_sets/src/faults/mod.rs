@@ -16,7 +16,7 @@ use std::ops::RangeInclusive;
 /// A name, and what changes a set. Where it finds nothing to change the set stays.
 pub type Way = (&'static str, fn(&mut Random, Set) -> Set);
 
-pub const WAYS: [Way; 26] = [
+pub const WAYS: [Way; 27] = [
     ("a byte of any value", files::any_byte),
     ("a byte of lines", files::byte_of_lines),
     ("the end of a line", files::line_end),
@@ -39,7 +39,8 @@ pub const WAYS: [Way; 26] = [
     ("receivers covered again", relations::again),
     ("a record again", relations::record),
     ("a shot or a receiver named", relations::named),
-    ("channels or receivers crossed", relations::crossed),
+    ("channels crossed", relations::crossed),
+    ("receivers backwards", relations::turned),
     ("a header line dropped", headers::dropped),
     ("a header line in all files", headers::in_all),
     ("a header line in one file", headers::in_one),

@@ -2,8 +2,10 @@
 
 use super::values::{number, put};
 use super::{headers_of, own_line};
+use crate::backwards;
 use small_sets::File::{R, S, X};
 use small_sets::{Line, Random, Set};
+use std::cmp::Ordering;
 
 const FROM_CHANNEL: (usize, usize) = (39, 42);
 const TO_CHANNEL: (usize, usize) = (43, 46);
@@ -29,19 +31,24 @@ pub fn wider(random: &mut Random, set: Set) -> Set {
 fn widened(random: &mut Random, line: Line) -> Option<Line> {
     let (_, to, components) = channels(&line)?;
     let (first, last) = (number(&line, FROM_RECEIVER)?, number(&line, TO_RECEIVER)?);
+    let on = match first.cmp(&last) {
+        Ordering::Less => 1,
+        Ordering::Greater => -1,
+        // One receiver is counted either way.
+        Ordering::Equal => random.pick(&[1, -1]),
+    };
+    let moved = |receiver: u32, by| receiver.checked_add_signed(by);
     Some(match random.below(3) {
-        0 => put(put(line, TO_CHANNEL, to + components), TO_RECEIVER, last + 1),
-        1 => put(put(line, TO_CHANNEL, to + components), FROM_RECEIVER, first.checked_sub(1)?),
-        _ => put(
-            put(line, TO_CHANNEL, to.checked_sub(components)?),
-            TO_RECEIVER,
-            last.checked_sub(1)?,
-        ),
+        0 => put(put(line, TO_CHANNEL, to + components), TO_RECEIVER, moved(last, on)?),
+        1 => put(put(line, TO_CHANNEL, to + components), FROM_RECEIVER, moved(first, -on)?),
+        _ => {
+            put(put(line, TO_CHANNEL, to.checked_sub(components)?), TO_RECEIVER, moved(last, -on)?)
+        }
     })
 }
 
 /// A relation line again at the end of its record, on channels of its own; at
-/// times with its first receiver only.
+/// times with its first receiver only, at times laid out backwards.
 pub fn again(random: &mut Random, set: Set) -> Set {
     let Some(at) = own_line(random, &set, X) else { return set };
     let line = set.line(X, at);
@@ -61,7 +68,9 @@ pub fn again(random: &mut Random, set: Set) -> Set {
     };
     let (Some(length), Some(to_receiver)) = (to.checked_sub(from), to_receiver) else { return set };
     let line = put(put(line, FROM_CHANNEL, before + 1), TO_CHANNEL, before + 1 + length);
-    set.insert(X, last + 1, put(line, TO_RECEIVER, to_receiver))
+    let line = put(line, TO_RECEIVER, to_receiver);
+    let line = if random.below(2) == 0 { line } else { backwards::line(line) };
+    set.insert(X, last + 1, line)
 }
 
 /// The tape and record of any line above, or of the line just above.
@@ -104,15 +113,32 @@ pub fn named(random: &mut Random, set: Set) -> Set {
     })
 }
 
-/// The ends of the channels or of the receivers crossed, at times with another
-/// increment.
+/// Another increment.
+fn other_increment(random: &mut Random, line: Line) -> Line {
+    line.increment(random.pick(&["2", "3", "7"]))
+}
+
+/// The ends of the channels crossed, at times with another increment.
 pub fn crossed(random: &mut Random, set: Set) -> Set {
     let Some(at) = own_line(random, &set, X) else { return set };
     set.edit(X, at, |mut line| {
-        let (first, width) = random.pick(&[(38, 4), (63, 8)]);
-        line.0[first..first + 2 * width].rotate_left(width);
+        line.0[38..46].rotate_left(4);
         match random.below(2) {
-            0 => line.increment(random.pick(&["2", "3", "7"])),
+            0 => other_increment(random, line),
+            _ => line,
+        }
+    })
+}
+
+/// A line laid out backwards, which is no fault; at times with another increment or another
+/// first receiver.
+pub fn turned(random: &mut Random, set: Set) -> Set {
+    let Some(at) = own_line(random, &set, X) else { return set };
+    set.edit(X, at, |line| {
+        let line = backwards::line(line);
+        match (random.below(4), number(&line, FROM_RECEIVER)) {
+            (0, _) => other_increment(random, line),
+            (1, Some(first)) => put(line, FROM_RECEIVER, first + 1),
             _ => line,
         }
     })

@@ -7,6 +7,7 @@ mod seeded;
 mod shots;
 mod shuffled;
 
+use crate::backwards;
 pub use seeded::seeded;
 use small_sets::place::last_header;
 use small_sets::{headers_only, receiver, relation, shot, File, Line, Random, Set};
@@ -40,7 +41,7 @@ pub const ON_TAPE: [Large; 1] = [("9,954 receivers, 1,995 shots, 9,975 lines, on
 
 /// Sets that are made to take long, of any number of lines, accepted or refused as late
 /// as can be.
-pub const HOSTILE: [Large; 30] = [
+pub const HOSTILE: [Large; 31] = [
     ("one record backwards", records::one_backwards),
     ("one record backwards, the last line covers the first receiver", |lines| {
         records::covered_again(records::one_backwards(lines), own(lines))
@@ -61,6 +62,7 @@ pub const HOSTILE: [Large; 30] = [
     ("records of 129 lines, the last covers the first receivers", |lines| {
         records::covered_again(records::of(lines, 129), 129)
     }),
+    ("records of 129 lines, laid out backwards", |lines| backwards::set(records::of(lines, 129))),
     ("a record for each line, tapes alike", records::many),
     ("a record for each line, the last is the first", records::many_again),
     ("nine indices, one of them covered", receivers::nine_indices),

@@ -29,7 +29,8 @@ fn one(random: &mut Random, set: &Set, is: impl Fn(&Line) -> bool) -> Option<u64
 
 /// Whether a relation line covers the name and number of a line of R.
 fn covered(at: &Line, line: &Line) -> bool {
-    let numbers = number(at, 64, 71)..=number(at, 72, 79);
+    let (from, to) = (number(at, 64, 71), number(at, 72, 79));
+    let numbers = from.min(to)..=from.max(to);
     at.0[47..63] == line.0[1..17] && numbers.contains(&number(line, 18, 25))
 }
 

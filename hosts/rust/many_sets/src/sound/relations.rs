@@ -54,13 +54,13 @@ fn lines_of(
     let mut left = receivers.clone();
     let mut from_channel = first_channel(random);
     for _ in 0..1 + random.below(size.lines) {
-        let Some(first) = left.iter().nth(random.below(left.len().max(1))).cloned() else { break };
+        let Some(lowest) = left.iter().nth(random.below(left.len().max(1))).cloned() else { break };
         let room = HIGHEST + 1 - from_channel;
         let components = u32::from(any_digit(random)).min(room);
         let most = 1 + random.below((room / components).min(size.covered) as usize) as u32;
-        let number = |at| Place { number: first.number + at, ..first.clone() };
+        let number = |at| Place { number: lowest.number + at, ..lowest.clone() };
         let receivers = (0..most).take_while(|&at| left.remove(&number(at))).count() as u32;
-        let line = Relation { record: record.clone(), from_channel, components, first, receivers };
+        let line = Relation { record: record.clone(), from_channel, components, lowest, receivers };
         from_channel += line.traces() as u32 + random.pick(&[0, 0, 0, 1, 2]);
         lines.push(line);
         if from_channel > HIGHEST {

@@ -26,8 +26,8 @@ pub struct Relation {
     pub record: Record,
     pub from_channel: u32,
     pub components: u32,
-    /// The first of the receivers.
-    pub first: Place,
+    /// The lowest of the receivers.
+    pub lowest: Place,
     pub receivers: u32,
 }
 
@@ -44,10 +44,12 @@ impl Relation {
         u64::from(self.receivers * self.components)
     }
 
+    /// How it is written; as often counted up as down.
     pub fn line(&self, random: &mut Random) -> Line {
-        let Relation { record, from_channel, first, .. } = self;
+        let Relation { record, from_channel, lowest, .. } = self;
         let to_channel = from_channel + self.traces() as u32 - 1;
-        let to_receiver = first.number + self.receivers - 1;
+        let highest = lowest.number + self.receivers - 1;
+        let [from_receiver, to_receiver] = lines::either_way(random, lowest.number, highest);
         Line([b' '; 80])
             .at(1, "X")
             .tape(&record.tape)
@@ -60,10 +62,10 @@ impl Relation {
             .at(39, &number(random, 4, *from_channel))
             .at(43, &number(random, 4, to_channel))
             .increment(&digit(random, self.components as u8))
-            .receiver_name(&first.name)
-            .at(64, &number(random, 8, first.number))
+            .receiver_name(&lowest.name)
+            .at(64, &number(random, 8, from_receiver))
             .at(72, &number(random, 8, to_receiver))
-            .receiver_index(&digit(random, first.index))
+            .receiver_index(&digit(random, lowest.index))
     }
 }
 

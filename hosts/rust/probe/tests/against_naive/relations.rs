@@ -12,6 +12,6 @@ fn relations() {
 #[test]
 fn damaged_relations() {
     let mut faults = first_columns(OF_RELATIONS);
-    faults.extend([(6, 39), (6, 64), (6, 47), (6, 72)]);
+    faults.extend([(6, 39), (6, 47), (6, 72)]);
     damaged(File::X, 7, relation, OF_RELATIONS, &faults);
 }

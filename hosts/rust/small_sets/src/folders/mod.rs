@@ -1,11 +1,11 @@
 //! Small sets as folders for the program `cases`: the rows of the paper's table
-//! that check a set, set A without points, a set for each refusal number, sets with two
-//! faults, and tapes.
+//! that check a set, set A without points and laid out backwards, a set for each refusal
+//! number, sets with two faults, and tapes.
 
 mod one_fault;
 mod two_faults;
 
-use crate::table::{decimals, paper, tapes};
+use crate::table::{backwards, decimals, paper, tapes};
 use crate::{headers_only, set_a, Set};
 
 pub use one_fault::{one_fault, OneFault};
@@ -43,6 +43,8 @@ pub fn folders() -> Vec<Folder> {
         folder("r_of_81_bytes", paper::r_of_81_bytes()),
         folder("headers_only", headers_only()),
         folder("no_points", decimals::no_points()),
+        folder("backwards", backwards::backwards()),
+        folder("up_and_down", backwards::up_and_down()),
     ];
     folders.extend(one_fault().iter().map(|case| folder(&case.name(), case.set())));
     folders.extend(two_faults().iter().map(|case| folder(case.name, case.set())));

@@ -15,7 +15,7 @@ pub fn cases() -> Vec<Case> {
 }
 
 /// Cases of one set, named by what is asked.
-fn of(name: &str, set: Set, rows: Vec<(Question, Answer)>) -> Vec<Case> {
+pub fn of(name: &str, set: Set, rows: Vec<(Question, Answer)>) -> Vec<Case> {
     let case = |(question, expected): (Question, Answer)| {
         ask(format!("{name}: {question}"), set.clone(), question, expected)
     };

@@ -1,6 +1,7 @@
 //! The table in sections, a file each.
 
 mod answers;
+pub mod backwards;
 mod covers;
 pub mod decimals;
 mod files;
@@ -22,7 +23,7 @@ use crate::Case;
 /// A name, and what gives the cases.
 pub type Section = (&'static str, fn() -> Vec<Case>);
 
-pub const SECTIONS: [Section; 15] = [
+pub const SECTIONS: [Section; 16] = [
     ("paper", paper::cases),
     ("files", files::cases),
     ("headers", headers::cases),
@@ -33,6 +34,7 @@ pub const SECTIONS: [Section; 15] = [
     ("order", order::cases),
     ("records", records::cases),
     ("covers", covers::cases),
+    ("backwards", backwards::cases),
     ("questions", questions::cases),
     ("pairs_of_form", pairs_of_form::cases),
     ("pairs_of_set", pairs_of_set::cases),

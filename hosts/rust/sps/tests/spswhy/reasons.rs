@@ -50,6 +50,27 @@ fn decimals() {
     }
 }
 
+/// Each place of 6, of receivers that are counted up and down; that they are counted down
+/// is none.
+#[test]
+fn channels_and_receivers() {
+    let words = "\nrefused with 6: the from channel is above the to channel (column 39), the \
+                 number of channels is no multiple of the channel increment (47), or does not \
+                 lead to as many receivers as are named, counted up or down (72)\n";
+    for (from, to) in [(101, 103), (103, 101)] {
+        let set = set_a().edit(File::X, first(), |x| x.receivers(from, to));
+        let expected = (Some(0), "ACCEPTED 3 1 1 3\n".to_owned(), String::new());
+        assert_eq!(of("channels_and_receivers", &set), expected);
+        for (at, text, column) in [(39, "   3   1", 39), (47, "2", 47), (43, "   4", 72)] {
+            let set = set.clone().put(File::X, first(), at, text);
+            let (_, verdict, reason) = of("channels_and_receivers", &set);
+            assert_eq!(verdict, format!("REFUSED 6 X {} {column}\n", first()));
+            assert!(reason.contains(words), "{reason}");
+            assert_eq!(last_two(&reason)[1], format!("{:>column$}", '^'));
+        }
+    }
+}
+
 /// A mark below CR and LF, and bytes that are no characters.
 #[test]
 fn strange_bytes() {
