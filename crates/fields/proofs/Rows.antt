@@ -51,14 +51,17 @@ module _ (g h r v e a w s p m k l : Bool) where
       || (p && m)) || (k && l)) ≡ ((p && (m && true)) || ((k && (l && true)) || ((v || (e || (a || (w || (s || false))))) && d)))
   in-s true =
       simp (and-true, and-false, or-false)
-      (turned ((((v || e) || a) || w) || s) (p && m) (k && l) ∙ ap (λ (x : Bool). (p && m) || ((k && l) || x)) (five v e a w s ∙ ap (λ (x : Bool). v || (e || (a || (w || x)))) (or-false s)))
+      (turned ((((v || e) || a) || w) || s) (p && m) (k && l) ∙ ap (λ (x : Bool). (p && m) || ((k && l) || x))
+      (five v e a w s ∙ ap (λ (x : Bool). v || (e || (a || (w || x)))) (or-false s)))
   in-s false = simp (and-true, and-false, or-false) refl
 
 module _ (b d : ℕ) where
   decided : (r : Bool) → some 10 (λ k. taken r b d (familyAt k)) ≡ coded r b d
   unfolding some pick same bytes oneOf
-  decided true = in-r (eqb b 71) (eqb b 72) (eqb b 82) (eqb b 86) (eqb b 69) (eqb b 65) (eqb b 87) (eqb b 83) (eqb b 80) (eqb d 77) (eqb b 75) (eqb d 76) (digit1 d)
-  decided false = in-s (eqb b 71) (eqb b 72) (eqb b 82) (eqb b 86) (eqb b 69) (eqb b 65) (eqb b 87) (eqb b 83) (eqb b 80) (eqb d 77) (eqb b 75) (eqb d 76) (digit1 d)
+  decided true = in-r (eqb b 71) (eqb b 72) (eqb b 82) (eqb b 86) (eqb b 69) (eqb b 65) (eqb b 87) (eqb b 83) (eqb b 80) (eqb d 77) (eqb b 75) (eqb d 76)
+      (digit1 d)
+  decided false = in-s (eqb b 71) (eqb b 72) (eqb b 82) (eqb b 86) (eqb b 69) (eqb b 65) (eqb b 87) (eqb b 83) (eqb b 80) (eqb d 77) (eqb b 75) (eqb d 76)
+      (digit1 d)
 
   pub rows-decide : (i : ℕ) → some 10 (λ k. takenBy i b d (familyAt k)) ≡ isCode i (b ∷ d ∷ [])
   unfolding isCode family col

@@ -40,7 +40,8 @@ module _ (how : Reading) (f : List ℕ) (k j : ℕ) (w : Known 3 (sheetOf how f)
   x = sheetOf how f
 
   pub meets-is : (p q : Reach) → p ≡ codedReach (reachAt x k) → q ≡ codedReach (reachAt x j)
-      → ((a b : PaperReach) → p ≡ codedReach a → q ≡ codedReach b → Wide (a .receiver) → Wide (b .receiver) → t ≡ meet a b) → t ≡ meet (reachAt x k) (reachAt x j)
+      → ((a b : PaperReach) → p ≡ codedReach a → q ≡ codedReach b → Wide (a .receiver) → Wide (b .receiver) → t ≡ meet a b) → t ≡ meet (reachAt x k)
+      (reachAt x j)
   meets-is p q a b h = h _ _ a b (receiver-wide 3 x w k (u .0)) (receiver-wide 3 x w j (v .0))
 
   module _ (l m : List ℕ) (p q : Name) (a : l ≡ owned x k) (b : p ≡ nameOf (text (cols l 48 (48 + 15)))) (c : m ≡ owned x j)

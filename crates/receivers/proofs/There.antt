@@ -93,7 +93,8 @@ module _ (r : Sheet) (o : List ℕ) (w : KnownReceivers r) (v : Rows r o) (x : S
   all-rows : receiversThere r q ≡ true → (d : ℕ) → d < receivers q → (j : ℕ) × (j < length o) × (rowValue r o j ≡ base + d)
   unfolding receiversThere isPointAt
   all-rows t d h =
-      let s = some-is (r .count) _ .0 (every-receiver q (λ n. some (r .count) (isPointAt r (q .receiver) n (q .receiverIndex))) .0 t (lowest q + d) (within d h)) in
+      let s = some-is (r .count) _ .0 (every-receiver q (λ n. some (r .count) (isPointAt r (q .receiver) n (q .receiverIndex))) .0 t (lowest q + d)
+      (within d h)) in
       let a = and-is _ _ .0 (s .2) in
       let p = v .placed (s .0) (s .1) (takes-receiver r (s .0) (s .1) ∙ a .0) in (
         p .place,

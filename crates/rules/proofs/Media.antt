@@ -73,12 +73,14 @@ page-ends = refl
 taken : (b : ℕ) → ltb 0 (charIn page b) ≡ true → told b ≡ true
 taken b t =
     yes-no (ltb b 256) (λ y. every-is 256 told .0 all-told b (ltb-true b 256 y))
-    (λ n. let z = beyond page b page-ends (let l : b < 256 → ⊥ = λ l. n (lt-ltb b 256 l) in omega arith) in absurd (let y = ltb-true 0 (charIn page b) t in omega arith))
+    (λ n. let z = beyond page b page-ends (let l : b < 256 → ⊥ = λ l. n (lt-ltb b 256 l) in omega arith) in absurd
+    (let y = ltb-true 0 (charIn page b) t in omega arith))
 
 pub page-small : (b : ℕ) → ltb 0 (charIn page b) ≡ true → b < 256
 page-small b t =
     yes-no (ltb b 256) (λ y. ltb-true b 256 y)
-    (λ n. let z = beyond page b page-ends (let l : b < 256 → ⊥ = λ l. n (lt-ltb b 256 l) in omega arith) in absurd (let y = ltb-true 0 (charIn page b) t in omega arith))
+    (λ n. let z = beyond page b page-ends (let l : b < 256 → ⊥ = λ l. n (lt-ltb b 256 l) in omega arith) in absurd
+    (let y = ltb-true 0 (charIn page b) t in omega arith))
 
 none-taken : byteIn page 0 ≡ 0
 unfolding page byteIn placeOf pick bytes

@@ -9,7 +9,8 @@ use lib.Dec.{eqb, leb}
 use lib.ListN.{length, getD, take, replicate, length-append}
 use lib.Seq.{take-suc, take-all, take-at, getD-at}
 use borrow.Author.Tests.{eqb-true, eq-eqb}
-use Rattle.rules.specs.Numbers.{digit, Number, malformed, plus, minus, digitsAfter, digits, justified, whole, negative, minusOr, signed, then, pointed, decimal}
+use Rattle.rules.specs.Numbers.{digit, Number, malformed, plus, minus, digitsAfter, digits, justified, whole, negative, minusOr}
+use Rattle.rules.specs.Numbers.{signed, then, pointed, decimal}
 use Rattle.rules.specs.MeetsFields.{Digit, Digits, valueAfter, Figures, Justified, Whole, Minus, Tenths}
 use Rattle.rules.proofs.Tests.{says, pick-is, yes-no}
 

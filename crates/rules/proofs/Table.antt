@@ -119,25 +119,26 @@ pub table :
 unfolding Places.pick Places.every Places.some Places.least Places.count Places.sum Places.greatest Places.ifBefore Places.isBefore Places.ofLast
     Plan._orElse_ Plan.firstOf Plan.run Text.col Text.front Text.cols Text.same Text.less Text.blank Text.bytes Text.oneOf Numbers.digit
     Numbers.digitsAfter Numbers.digits Numbers.whole Numbers.justified Numbers.negative Numbers.minusOr Numbers.signed Numbers.then Numbers.pointed
-    Numbers.decimal Numbers.tenths Numbers.size Numbers.value Kinds.formed Kinds.between Kinds.within Kinds.allDigits Kinds.digit1 Kinds.indexOf Kinds.family Kinds.isCode
-    Kinds.water Kinds.isTime Kinds.fits Layout.sps93 Layout.at Sheet.mostLines Disc.printable Disc.byteFits Form.strayFrom Form.stray Form.ending Form.rule29
-    Medium.sheet Disc.disc Tape.page Tape.charIn Tape.placeOf Tape.byteIn Tape.tape Names.sameName Names.ranked Names.lessName Lines.letter Lines.isHeader Lines.isMarker Lines.isData Lines.isPoint Lines.heads Points.holds
-    Points.nameOf Points.numberOf Points.indexAt Points.point Points.pointAt Points.isAt Points.samePoint Relations.reach Relations.relation
-    Relations.reachAt Relations.relationAt Cover.traces Cover.carries Cover.receivers Cover.receiverOn Cover.onTo Cover.covers Cover.leads Cover.component
-    Cover.channelOf Cover.meet Rows.headerRows Rows.pointRows Rows.relationRows Form.rule1 Form.rule2 Form.rule3 Form.rule4 Form.fieldsFit Form.rule5
-    Form.rule6 Form.lineFits Form.form Headers.twoDigits Headers.isType Headers.rule7 Headers.cut Headers.freedBefore Headers.freedAfter
-    Headers.projection Headers.rule8 Headers.sameColumns Headers.rule9 Reaches.reachesOf Reaches.ofRecord Reaches.mates Reaches.together Reaches.rises
-    Reaches.once Reaches.search Order.above Order.earlier Order.rule10 Order.rule11 Order.rule12 Order.isPointAt Order.lineOfPoint Order.shotLine
-    Order.receiverLine Order.rule13 Order.rule14 Order.names Order.rule15 Order.sameShot Order.rule16 Order.rule17 Order.receiversThere Order.rule18
-    Order.rule19 Check.relationFits Check.rules Check.verdict Check.points Check.relations Check.allTraces Check.answer Check.check
-    Questions.recordAsked Questions.channelAsked Questions.lineAsked Questions.componentAsked Questions.rule20 Lookup.found Lookup.lookup
-    Lookup.reaches Lookup.foundBack Lookup.wayBack Spread.highestOf Spread.lineOf Spread.componentOf Spread.turns Spread.rule21 Spread.spreadVerdict
-    Spread.spread Spread.unlessRefused Spread.slice Hosts.packed Hosts.hostNumber Hosts.numbersOf
+    Numbers.decimal Numbers.tenths Numbers.size Numbers.value Kinds.formed Kinds.between Kinds.within Kinds.allDigits Kinds.digit1 Kinds.indexOf
+    Kinds.family Kinds.isCode Kinds.water Kinds.isTime Kinds.fits Layout.sps93 Layout.at Sheet.mostLines Disc.printable Disc.byteFits Form.strayFrom
+    Form.stray Form.ending Form.rule29 Medium.sheet Disc.disc Tape.page Tape.charIn Tape.placeOf Tape.byteIn Tape.tape Names.sameName Names.ranked
+    Names.lessName Lines.letter Lines.isHeader Lines.isMarker Lines.isData Lines.isPoint Lines.heads Points.holds Points.nameOf Points.numberOf
+    Points.indexAt Points.point Points.pointAt Points.isAt Points.samePoint Relations.reach Relations.relation Relations.reachAt Relations.relationAt
+    Cover.traces Cover.carries Cover.receivers Cover.receiverOn Cover.onTo Cover.covers Cover.leads Cover.component Cover.channelOf Cover.meet
+    Rows.headerRows Rows.pointRows Rows.relationRows Form.rule1 Form.rule2 Form.rule3 Form.rule4 Form.fieldsFit Form.rule5 Form.rule6 Form.lineFits
+    Form.form Headers.twoDigits Headers.isType Headers.rule7 Headers.cut Headers.freedBefore Headers.freedAfter Headers.projection Headers.rule8
+    Headers.sameColumns Headers.rule9 Reaches.reachesOf Reaches.ofRecord Reaches.mates Reaches.together Reaches.rises Reaches.once Reaches.search
+    Order.above Order.earlier Order.rule10 Order.rule11 Order.rule12 Order.isPointAt Order.lineOfPoint Order.shotLine Order.receiverLine Order.rule13
+    Order.rule14 Order.names Order.rule15 Order.sameShot Order.rule16 Order.rule17 Order.receiversThere Order.rule18 Order.rule19 Check.relationFits
+    Check.rules Check.verdict Check.points Check.relations Check.allTraces Check.answer Check.check Questions.recordAsked Questions.channelAsked
+    Questions.lineAsked Questions.componentAsked Questions.rule20 Lookup.found Lookup.lookup Lookup.reaches Lookup.foundBack Lookup.wayBack
+    Spread.highestOf Spread.lineOf Spread.componentOf Spread.turns Spread.rule21 Spread.spreadVerdict Spread.spread Spread.unlessRefused Spread.slice
+    Hosts.packed Hosts.hostNumber Hosts.numbersOf
 table = refl
 
 -- "easting 003262601, meaning 326260.1"
 pub bare-easting : point sps93 (lineWith 47 "003262601") .easting ≡ pos 3262601
-unfolding Places.pick Text.col Text.front Text.cols Text.blank Text.bytes Numbers.digit Numbers.digitsAfter Numbers.digits Numbers.whole Numbers.justified Numbers.negative
-    Numbers.minusOr Numbers.signed Numbers.then Numbers.pointed Numbers.decimal Numbers.tenths Numbers.size Numbers.value Kinds.between Kinds.indexOf Kinds.water
-    Layout.sps93 Layout.at Points.holds Points.nameOf Points.numberOf Points.indexAt Points.point
+unfolding Places.pick Text.col Text.front Text.cols Text.blank Text.bytes Numbers.digit Numbers.digitsAfter Numbers.digits Numbers.whole Numbers.justified
+    Numbers.negative Numbers.minusOr Numbers.signed Numbers.then Numbers.pointed Numbers.decimal Numbers.tenths Numbers.size Numbers.value Kinds.between
+    Kinds.indexOf Kinds.water Layout.sps93 Layout.at Points.holds Points.nameOf Points.numberOf Points.indexAt Points.point
 bare-easting = refl

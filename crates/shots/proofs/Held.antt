@@ -27,7 +27,8 @@ use Rattle.keys.proofs.Held.{holds-point}
 use Rattle.keys.proofs.Points.{shot-is}
 use Rattle.shots.specs.Places.{isShot, namesKey}
 
-module _ (s x : Sheet) (ws : Known 2 s) (wx : Known 3 x) (e : s .rank ≡ x .rank) (k : ℕ) (h : k < x .count) (d : isData x k ≡ true) (j : ℕ) (g : j < s .count) where
+module _ (s x : Sheet) (ws : Known 2 s) (wx : Known 3 x) (e : s .rank ≡ x .rank) (k : ℕ) (h : k < x .count) (d : isData x k ≡ true) (j : ℕ)
+    (g : j < s .count) where
   pub key-shot : holdsKey Points s (shotKey (x .layout) (owned x k)) j ≡ isShot s x k j
   unfolding isShot isPointAt
   key-shot = holds-point Points s _ j (isPoint s j) _ (takes-point s j g) (λ p. shot-is 2 s ws two j g p x wx e k h d)

@@ -17,8 +17,8 @@ use lines::Reading;
 
 mod bytes;
 mod components;
-mod numbers;
 mod led;
+mod numbers;
 pub mod wanted;
 
 // The record's highest covered channel; 0 where the record is absent.

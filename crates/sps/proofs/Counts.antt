@@ -119,7 +119,8 @@ module _ (M : Medium) (g : Lawful M) (r s x : List ℕ) where
       let a = how-many (file r) (isPoint (file r)) (Point (file r)) (point-is (file r)) n .0 (c .receivers) in
       let b = how-many (file s) (isPoint (file s)) (Point (file s)) (point-is (file s)) m .0 (c .shots) in
       let d = how-much (file x) (isData (file x)) (Data (file x)) (data-is (file x)) _ k t .0 (c .relations) .0 in
-      each n m k t (fits _ n _ (few-lines r (ok .formR .rule2)) a) (fits _ m _ (few-lines s (ok .formS .rule2)) b) (fits _ k _ (few-lines x (ok .formX .rule2)) d)
+      each n m k t (fits _ n _ (few-lines r (ok .formR .rule2)) a) (fits _ m _ (few-lines s (ok .formS .rule2)) b)
+      (fits _ k _ (few-lines x (ok .formX .rule2)) d)
       (omega arith)
 
   -- o stands in the slice before the call, and e afterwards

@@ -34,8 +34,14 @@ loop-less c = search needs
 
 loop-again : tie.Need-loop-again Inv-loop μ-loop
 loop-again c =
-    let at = c .before .before .loop in
-    (omega arith, (length-set (at .l) (at .c) _ ∙ at .inv .1 .0, copied-more (c .before .before .before .args .f .now) (at .l) _ (at .c) (omega arith) (at .inv .1)))
+    let at = c .before .before .loop in (
+      omega arith,
+      (
+        length-set (at .l) (at .c) _ ∙ at .inv .1 .0,
+        copied-more (c .before .before .before .args .f .now) (at .l) _ (at .c) (omega arith)
+            (at .inv .1),
+      ),
+    )
 
 returns : tie.Need-returns Inv-loop μ-loop
 returns c =

@@ -80,14 +80,18 @@ loop-again c =
     let at = c .before .before .before .before .loop in
     let b = c .before .before .before .before .before .before .before in
     let a = b .args in
-    let l = place (a .how) _ (c .before .before .before .before .before .stride .ensures) (a .f .now) (a .k) (b .pre) in
-    (omega arith, stray-step (mediumOf (a .how) .takes) (a .f .now) _ _ (at .c) _ (at .inv .1) (omega arith) (l .1) _ (c .before .takes .ensures) (not-false _ (c .if1 .left)))
+    let l = place (a .how) _ (c .before .before .before .before .before .stride .ensures) (a .f .now) (a .k) (b .pre) in (
+      omega arith,
+      stray-step (mediumOf (a .how) .takes) (a .f .now) _ _ (at .c) _ (at .inv .1) (omega arith) (l .1) _ (c .before .takes .ensures)
+          (not-false _ (c .if1 .left)),
+    )
 
 returns-2 : tie.Need-returns-2 Inv-loop μ-loop
 returns-2 c =
     let at = c .before .loop in
     let a = c .before .before .before .before .args in
-    stray-end (mediumOf (a .how) .takes) (a .f .now) _ _ (at .c) _ (at .inv .1) (omega arith) ∙ stray-from (a .how) _ (c .before .before .stride .ensures) (a .f .now) (a .k)
+    stray-end (mediumOf (a .how) .takes) (a .f .now) _ _ (at .c) _ (at .inv .1) (omega arith) ∙ stray-from (a .how) _ (c .before .before .stride .ensures)
+    (a .f .now) (a .k)
 
 pub first-stray-spec : {M : Type 1} → statement M
 first-stray-spec =

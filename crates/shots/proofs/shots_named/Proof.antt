@@ -59,7 +59,8 @@ returns c =
     let h : at .k < sheetOf (a .how) (a .s .now) .count = omega (arith, c .before .before .before .before .before .before .loop-test .taken) in
     c .at-line .ensures
     ∙ stops-here _ (at .k) _ _ h (at .inv .1 .1)
-    (step-unnamed _ _ p (rank-same (a .how) (a .s .now) (a .x .now)) (at .k) (at .j) h (at .inv .1 .0) _ (c .before .before .before .before .before .takes .ensures)
+    (step-unnamed _ _ p (rank-same (a .how) (a .s .now) (a .x .now)) (at .k) (at .j) h (at .inv .1 .0) _
+    (c .before .before .before .before .before .takes .ensures)
     (c .before .before .before .before .if1 .taken) _ (c .before .before .before .key-of .ensures) _ (c .before .before .past .ensures)
     (c .before .if2 .taken))
 
@@ -77,7 +78,8 @@ loop-again c =
     let at = b .loop in
     let n = b .before .before .line-count .ensures in
     let h : at .k < sheetOf (a .how) (a .s .now) .count = omega arith in
-    let w = step-named _ _ p (rank-same (a .how) (a .s .now) (a .x .now)) (at .k) (at .j) h (at .inv .1 .0) _ (c .before .before .before .before .takes .ensures)
+    let w = step-named _ _ p (rank-same (a .how) (a .s .now) (a .x .now)) (at .k) (at .j) h (at .inv .1 .0) _
+    (c .before .before .before .before .takes .ensures)
     (c .before .before .before .if1 .taken) _ (c .before .before .key-of .ensures) _ (c .before .past .ensures) (c .if2 .left) in
     (omega arith, (w .1, one-more _ (at .k) (at .inv .1 .1) (w .0)))
 

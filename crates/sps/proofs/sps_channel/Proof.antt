@@ -36,7 +36,8 @@ returns c =
     let a = d .before .before .before .before .before .args in
     c .question-number .ensures
     ∙ ap hostNumber (by-choice _ _ (d .chosen .ensures) _ (b .how .given .1)
-    (λ (M : Medium). wayBack (sheet M sps93 (a .r .now)) (sheet M sps93 (a .s .now)) (sheet M sps93 (a .x .now)) (a .tape .now) (a .«record») (a .r-line) (a .component)) _
+    (λ (M : Medium). wayBack (sheet M sps93 (a .r .now)) (sheet M sps93 (a .s .now)) (sheet M sps93 (a .x .now)) (a .tape .now) (a .«record») (a .r-line)
+    (a .component)) _
     (c .before .channel .ensures))
 
 returns-2 : tie.Need-returns-2
@@ -46,7 +47,8 @@ returns-2 c =
     let a = d .before .before .before .before .before .args in
     c .pack .ensures
     ∙ ap hostNumber (no-choice _ _ (d .chosen .ensures) (c .before .enum-told .given .1)
-    (λ (M : Medium). wayBack (sheet M sps93 (a .r .now)) (sheet M sps93 (a .s .now)) (sheet M sps93 (a .x .now)) (a .tape .now) (a .«record») (a .r-line) (a .component)))
+    (λ (M : Medium). wayBack (sheet M sps93 (a .r .now)) (sheet M sps93 (a .s .now)) (sheet M sps93 (a .x .now)) (a .tape .now) (a .«record») (a .r-line)
+    (a .component)))
 
 pub sps-channel-spec : {M : Type 1} → statement M
 sps-channel-spec =

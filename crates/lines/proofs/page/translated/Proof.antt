@@ -40,7 +40,11 @@ loop-again c =
       omega arith,
       (
         at .inv .1 .0,
-        (length-set (at .t) (at .c) _ ∙ w .0, translated-more (c .before .before .before .before .args .t1) (at .t) (at .c) _ (omega arith) (c .look .ensures) w),
+        (
+          length-set (at .t) (at .c) _ ∙ w .0,
+          translated-more (c .before .before .before .before .args .t1) (at .t) (at .c) _ (omega arith)
+              (c .look .ensures) w,
+        ),
       ),
     )
 

@@ -27,7 +27,8 @@ all-printed-requires : tie.Need-all-printed-requires
 all-printed-requires c κs = search needs
 
 returns-3 : tie.Need-returns-3
-returns-3 c = λ t. proper-all (c .before .before .before .before .before .before .args .f .now) _ (c .all-printed .ensures t) (c .before .before .before .if1 .left) (c .before .if2 .left)
+returns-3 c = λ t. proper-all (c .before .before .before .before .before .before .args .f .now) _ (c .all-printed .ensures t)
+    (c .before .before .before .if1 .left) (c .before .if2 .left)
 
 pub all-proper-spec : {M : Type 1} → statement M
 all-proper-spec =

@@ -35,7 +35,8 @@ shared-slice-read-result : tie.Need-shared-slice-read-result
 shared-slice-read-result c = let d = c .before in omega (arith, on d, d .before .before .before .pre .inside)
 
 -- the line that stands in its row
-line : (c : tie.After-lowest) → nth (c .before .before .before .args .o .now) (c .before .before .before .args .e + (c .before .leads .result - c .lowest .result))
+line : (c : tie.After-lowest) → nth (c .before .before .before .args .o .now)
+    (c .before .before .before .args .e + (c .before .leads .result - c .lowest .result))
     < mostLines
 line c = let s = c .before .before .before in subst (λ (n : ℕ). nth (s .args .o .now) (s .args .e + n) < mostLines) (sym (on c)) (s .pre .few)
 

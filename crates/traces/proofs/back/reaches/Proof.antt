@@ -48,7 +48,8 @@ returns-2 c =
     let a = b .before .before .before .before .before .args in
     let p = b .before .before .before .before .before .pre in
     let en = number-read (a .how) (a .r .now) (a .i) _ _ (b .before .before .line-of .ensures) (b .number-at .ensures) in
-    no-component (sheetOf (a .how) (a .r .now)) (sheetOf (a .how) (a .x .now)) (a .i) (a .k) (a .component) (p .0) (p .1 .0) (rank-same (a .how) (a .r .now) (a .x .now)) (p .1 .1) _ en (c .if2 .taken)
+    no-component (sheetOf (a .how) (a .r .now)) (sheetOf (a .how) (a .x .now)) (a .i) (a .k) (a .component) (p .0) (p .1 .0)
+    (rank-same (a .how) (a .r .now) (a .x .now)) (p .1 .1) _ en (c .if2 .taken)
 
 cast-if3 : tie.Need-cast-if3
 cast-if3 c = search needs
@@ -61,7 +62,8 @@ returns-3 c =
     let p = d .before .before .before .pre in
     let en = number-read (a .how) (a .r .now) (a .i) _ _ (d .line-of .ensures) (b .before .number-at .ensures) in
     let e = reads (a .how) (a .x .now) (a .k) _ _ (b .line-of2 .ensures) (c .before .before .before .before .before .reach-of .ensures) in
-    too-high (sheetOf (a .how) (a .r .now)) (sheetOf (a .how) (a .x .now)) (a .i) (a .k) (a .component) (p .0) (p .1 .0) (rank-same (a .how) (a .r .now) (a .x .now)) (p .1 .1) _ en _
+    too-high (sheetOf (a .how) (a .r .now)) (sheetOf (a .how) (a .x .now)) (a .i) (a .k) (a .component) (p .0) (p .1 .0)
+    (rank-same (a .how) (a .r .now) (a .x .now)) (p .1 .1) _ en _
     (ap (λ (q : ReachValues). q .step) e) (c .if3 .taken)
 
 receiver-key-requires : tie.Need-receiver-key-requires
@@ -79,7 +81,8 @@ returns-4 c =
     let p = d .before .before .before .before .before .before .pre in
     let en = number-read (a .how) (a .r .now) (a .i) _ _ (d .before .before .before .line-of .ensures) (d .before .number-at .ensures) in
     let e = reads (a .how) (a .x .now) (a .k) _ _ (d .line-of2 .ensures) (b .before .reach-of .ensures) in
-    by-key (sheetOf (a .how) (a .r .now)) X (a .i) (a .k) (a .component) (p .0) (p .1 .0) (rank-same (a .how) (a .r .now) (a .x .now)) (p .1 .1) _ en _ (b .covers .ensures (reachAt X (a .k)) e)
+    by-key (sheetOf (a .how) (a .r .now)) X (a .i) (a .k) (a .component) (p .0) (p .1 .0) (rank-same (a .how) (a .r .now) (a .x .now)) (p .1 .1) _ en _
+    (b .covers .ensures (reachAt X (a .k)) e)
     (not-false _ (c .before .before .before .before .before .if1 .left)) (c .before .before .before .before .if2 .left) _
     (ap (λ (q : ReachValues). q .step) e) (c .before .before .if3 .left) _
     (key-read (a .how) (a .x .now) (a .k) _ _ (c .before .receiver-key .ensures)) _ (c .is-at .ensures)
