@@ -85,7 +85,7 @@ line-fits L w l s Receivers =
     let a = figures-small l (L .point) (w .point) in
     let b = index-low (at l (L .index)) in
     (last-small l s (L .name) (w .name), omega arith)
-line-fits L w l s Records = (tape-small l s (L .tape) (w .tape), lit≤ tt)
+line-fits L w l s Records = (lit≤ tt, tape-small l s (L .tape) (w .tape))
 
 module _ (i : ℕ) (f : Sheet) (w : Known i f) (k : ℕ) where
   line-small : Small (lineAt f k)

@@ -1,7 +1,7 @@
 -- Relation lines of one key are of one tape and record.
 use Prim.Native.Nat.{ℕ, _<_}
 use mathlib.Core.Path.{_≡_, refl, ap, _∙_}
-use mathlib.Core.Bool.{true, _&&_, and-true, and-comm}
+use mathlib.Core.Bool.{true, _&&_, and-comm}
 use mathlib.Core.List.{List}
 use lib.Dec.{eqb}
 use Rattle.rules.specs.Plan.{fileX}
@@ -27,7 +27,7 @@ use Rattle.keys.proofs.Passed.{record-read}
 
 -- the key of a tape and a record
 abbrev of-record : List ℕ → ℕ → Key
-of-record t n = record { first = n; second = packed t; third = 0 }
+of-record t n = record { first = n; second = 0; third = packed t }
 
 module _ (x : Sheet) (w : Known fileX x) (k : ℕ) (h : k < x .count) (d : isData x k ≡ true) where
   record-key : keyAt Records x k ≡ of-record (at (owned x k) (x .layout .tape)) (reachAt x k .number)
@@ -53,6 +53,5 @@ module _ (x : Sheet) (w : Known fileX x) (j : ℕ) (g : j < x .count) (c : isDat
     unfolding sameKey ofRecord
     records-same =
         rw (record-key x w j g c, record-key x w k h d)
-        (ap (_&&_ (eqb (reachAt x j .number) (reachAt x k .number)))
-        (and-true (eqb (packed (at (owned x j) (x .layout .tape))) (packed (at (owned x k) (x .layout .tape)))) ∙ tapes)
+        (ap (_&&_ (eqb (reachAt x j .number) (reachAt x k .number))) tapes
         ∙ and-comm (eqb (reachAt x j .number) (reachAt x k .number)) (same (reachAt x j .tape) (reachAt x k .tape)))

@@ -42,7 +42,7 @@ nameKey bs third = record { first = packed (take 8 bs); second = packed (drop 8 
 unfoldable pub keyOf : By → Layout → List ℕ → Key
 keyOf Points L l = nameKey (at l (L .name)) (256 * figures (at l (L .point)) + lowIndex (at l (L .index)))
 keyOf Receivers L l = nameKey (at l (L .name)) (4294967296 * lowIndex (at l (L .index)) + figures (at l (L .point)))
-keyOf Records L l = record { first = figures (at l (L .number)); second = packed (at l (L .tape)); third = 0 }
+keyOf Records L l = record { first = figures (at l (L .number)); second = 0; third = packed (at l (L .tape)) }
 
 unfoldable pub shotKey : Layout → List ℕ → Key
 shotKey L l = nameKey (at l (L .source)) (256 * figures (at l (L .shot)) + lowIndex (at l (L .shotIndex)))

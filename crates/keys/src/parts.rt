@@ -64,7 +64,7 @@ pub fn second(by: By, l: &[u8; 80]) -> u64
     match by {
         By::Points => names::pack(l, 10, 17),
         By::Receivers => names::pack(l, 10, 17),
-        By::Records => names::pack(l, 2, 7),
+        By::Records => 0,
     }
 }
 
@@ -74,6 +74,6 @@ pub fn third(by: By, l: &[u8; 80]) -> u64
     match by {
         By::Points => 256 * figures::number(l, 18, 25) + figures::index(l, 26),
         By::Receivers => 4294967296 * figures::index(l, 26) + figures::number(l, 18, 25),
-        By::Records => 0,
+        By::Records => names::pack(l, 2, 7),
     }
 }

@@ -1,7 +1,6 @@
 -- `keys::parts::second` meets its contract. Assumes nothing.
 use Rattle.keys.proofs.Halves.{name-last}
 use Rattle.keys.specs.Keys.{keyOf}
-use Rattle.rules.specs.Layout.{at, sps93}
 use borrow.Author.Needs.{needs}
 use mathlib.Core.Path.{_∙_}
 use Rattle.keys.proofs.parts.second.Statement.{statement}
@@ -22,9 +21,6 @@ pack-requires-2 c κs = search needs
 enum-told-3 : tie.Need-enum-told-3
 enum-told-3 c = search needs
 
-pack-requires-3 : tie.Need-pack-requires-3
-pack-requires-3 c κs = search needs
-
 returns : tie.Need-returns
 unfolding keyOf
 returns c = rw (c .before .enum-told .given .1) (c .pack .ensures ∙ name-last _)
@@ -34,8 +30,8 @@ unfolding keyOf
 returns-2 c = rw (c .before .enum-told2 .given .1) (c .pack2 .ensures ∙ name-last _)
 
 returns-3 : tie.Need-returns-3
-unfolding keyOf at sps93
-returns-3 c = rw (c .before .enum-told3 .given .1) (c .pack3 .ensures)
+unfolding keyOf
+returns-3 c = rw (c .enum-told3 .given .1)
 
 pub second-spec : {M : Type 1} → statement M
 second-spec =
@@ -46,7 +42,6 @@ second-spec =
     enum-told-2
     pack-requires-2
     enum-told-3
-    pack-requires-3
     returns
     returns-2
     returns-3)

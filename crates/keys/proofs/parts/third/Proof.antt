@@ -40,6 +40,9 @@ add-result-2 c = search needs
 enum-told-3 : tie.Need-enum-told-3
 enum-told-3 c = search needs
 
+pack-requires : tie.Need-pack-requires
+pack-requires c κs = search needs
+
 returns : tie.Need-returns
 unfolding keyOf at sps93
 returns c =
@@ -53,8 +56,8 @@ returns-2 c =
     (ap₂ (λ (i p : ℕ). 4294967296 * i + p) (c .before .index2 .ensures .0) (c .number2 .ensures .0))
 
 returns-3 : tie.Need-returns-3
-unfolding keyOf
-returns-3 c = rw (c .enum-told3 .given .1)
+unfolding keyOf at sps93
+returns-3 c = rw (c .before .enum-told3 .given .1) (c .pack .ensures)
 
 pub third-spec : {M : Type 1} → statement M
 third-spec =
@@ -71,6 +74,7 @@ third-spec =
     number-requires-2
     add-result-2
     enum-told-3
+    pack-requires
     returns
     returns-2
     returns-3)
