@@ -8,7 +8,7 @@
 static const uint8_t tape[] = {'1', '0', '0', ' ', ' ', ' '};
 
 /* The last header line of set A, and the three lines below it. */
-enum { LAST_HEADER = 21, FIRST, SECOND, THIRD };
+enum { LAST_HEADER = 24, FIRST, SECOND, THIRD };
 
 /* What stands in memory that is lent to be written. */
 enum { STAYS = 0xAA };

@@ -15,7 +15,7 @@ using Bytes = std::vector<std::uint8_t>;
 int failures = 0;
 
 // The receivers of set A by their lines in R.
-const unsigned FIRST = 22, SECOND = 23, THIRD = 24;
+const unsigned FIRST = 25, SECOND = 26, THIRD = 27;
 
 template <typename Found, typename Expected>
 void same(const char *what, const Found &found, const Expected &expected)

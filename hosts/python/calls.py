@@ -17,7 +17,7 @@ BYTES = [ctypes.POINTER(ctypes.c_uint8), SIZE]
 DISC, TAPE = 1, 2
 
 # The receivers of set A by their lines in R.
-FIRST, SECOND, THIRD = 22, 23, 24
+FIRST, SECOND, THIRD = 25, 26, 27
 
 
 def library(path):

@@ -22,7 +22,7 @@ pub use case::{Answer, Case, Question, STAYS};
 pub use codes::codes;
 pub use examples::{examples, Example};
 pub use folders::{folders, one_fault, tape_folders, two_faults, Folder, OneFault, TwoFaults};
-pub use line::{header, marker, receiver, relation, shot, Line};
+pub use line::{first_record, header, header_with, marker, receiver, relation, shot, Line};
 pub use random::Random;
 pub use set::{headers_only, set_a, File, Medium, Set};
 pub use table::{table, Section, SECTIONS};

@@ -11,6 +11,25 @@ pub fn header(number: usize) -> Line {
     Line([b' '; 80]).at(1, &format!("H{number:02}"))
 }
 
+/// A header line of three digits with a code; a digit is the code of an instrument.
+pub fn header_with(number: usize, code: &str) -> Line {
+    let line = header(number).at(33, code);
+    match code.len() {
+        1 => line.at(34, ","),
+        _ => line,
+    }
+}
+
+/// The first record of one of the tables for a code's kind, which are counted from 0.
+pub fn first_record(at: usize, code: &str) -> Line {
+    let (first, step, tables) = match code.as_bytes()[0] {
+        b'1'..=b'9' => (400, 20, 9),
+        b'G' | b'H' | b'R' => (600, 10, 10),
+        _ => (700, 20, 10),
+    };
+    header_with(first + at % tables * step, code)
+}
+
 /// A receiver of set A with another point number.
 pub fn receiver(point: u32) -> Line {
     point_line("R", "G1").point(point)

@@ -8,9 +8,9 @@ pub fn last_header() -> usize {
     headers_only().lines(File::R)
 }
 
-/// The header line of a type.
+/// The header line of a type, or of a table by its three digits.
 pub fn header_line(number: usize) -> usize {
-    let (set, kind) = (headers_only(), format!("H{number:02} "));
+    let (set, kind) = (headers_only(), format!("{:4}", format!("H{number:02}")));
     let stands = |&line: &usize| set.line(File::R, line).0.starts_with(kind.as_bytes());
     (1..=last_header()).find(stands).expect("a type of set A's header")
 }

@@ -1,6 +1,7 @@
 //! Set A, and edits that give another set.
 
-use crate::line::{header, receiver, relation, shot, Line};
+use crate::line::{first_record, header, receiver, relation, shot, Line};
+use crate::place::first;
 use crate::tape;
 use File::{R, S, X};
 
@@ -66,12 +67,13 @@ pub struct Set {
     pub x: Vec<u8>,
 }
 
-/// The header blocks of set A: H00 to H20, H18 holding `UTM;`.
+/// The header blocks of set A: H00 to H20, H18 holding `UTM;`, then tables for 1, G1 and V1.
 pub fn headers_only() -> Set {
-    let block = (0..=20).map(|number| match number {
+    let types = (0..=20).map(|number| match number {
         18 => header(number).at(33, "UTM;"),
         _ => header(number),
     });
+    let block = types.chain(["1", "G1", "V1"].map(|code| first_record(0, code)));
     Set::default().each(|set, file| set.add_all(file, block.clone()))
 }
 
@@ -177,6 +179,16 @@ impl Set {
         let blank = self.medium.blank();
         self.file_mut(file).resize(end, blank);
         self
+    }
+
+    /// First records below set A's header, one for each code, in each of the three files; all
+    /// other lines move down.
+    pub fn naming(self, codes: &[&str]) -> Set {
+        let records = (1..).zip(codes).map(|(at, code)| first_record(at, code));
+        let records: Vec<Line> = records.collect();
+        self.each(|set, file| {
+            records.iter().rev().fold(set, |set, &record| set.insert(file, first(), record))
+        })
     }
 
     /// The same edit in each of the three files.

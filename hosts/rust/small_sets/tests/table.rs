@@ -44,7 +44,7 @@ fn set_a_is_as_described() {
         let bytes = &set.file(file)[(number - 1) * 82..number * 82];
         String::from_utf8_lossy(bytes).into_owned()
     };
-    assert_eq!(last_header(), 21);
+    assert_eq!(last_header(), 24);
     assert_eq!([3, 1, 1], File::ALL.map(|file| set.lines(file) - last_header()));
     for (n, point) in [(1, "     101"), (2, "     102"), (3, "     103")] {
         let start = ["R", "L1              ", point, "1", "G1"].concat();
@@ -58,6 +58,9 @@ fn set_a_is_as_described() {
             let text = if number == 18 { "UTM;" } else { "" };
             let expected = format!("H{number:02}{:29}{text:48}\r\n", "");
             assert_eq!(line(file, number + 1), expected);
+        }
+        for (at, start, code) in [(22, "H400", "1,"), (23, "H600", "G1"), (24, "H700", "V1")] {
+            assert_eq!(line(file, at), format!("{start}{:28}{code}{:46}\r\n", "", ""));
         }
     }
 }

@@ -13,7 +13,7 @@
 //!
 //! let record = set.record(b"100   ", 11);
 //! let trace = record.channel(2)?.expect("a trace");
-//! assert_eq!((trace.r_line, trace.component), (23, 1));
+//! assert_eq!((trace.r_line, trace.component), (26, 1));
 //! assert_eq!(record.receiver(trace.r_line, trace.component)?, Some(2));
 //! # Ok::<(), Box<dyn std::error::Error>>(())
 //! ```

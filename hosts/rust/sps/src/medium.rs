@@ -9,7 +9,7 @@
 /// # let (r, s, x) = (read("set.r01")?, read("set.s01")?, read("set.x01")?);
 /// assert!(Set::new(Medium::Disc, &r, &s, &x).check().is_ok());
 /// let refusal = Set::new(Medium::Tape, &r, &s, &x).check().unwrap_err();
-/// assert_eq!(refusal.to_string(), "REFUSED 1 R 25 0");
+/// assert_eq!(refusal.to_string(), "REFUSED 1 R 28 0");
 /// # Ok::<(), std::io::Error>(())
 /// ```
 #[derive(Clone, Copy, Debug, PartialEq, Eq, Hash)]

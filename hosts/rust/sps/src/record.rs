@@ -24,8 +24,8 @@ pub struct Record<'a> {
 /// Where a trace comes from.
 ///
 /// ```
-/// let trace = sps::Trace { r_line: 23, component: 1 };
-/// assert_eq!(format!("{trace:?}"), "Trace { r_line: 23, component: 1 }");
+/// let trace = sps::Trace { r_line: 26, component: 1 };
+/// assert_eq!(format!("{trace:?}"), "Trace { r_line: 26, component: 1 }");
 /// ```
 #[derive(Clone, Copy, Debug, PartialEq, Eq, Hash)]
 pub struct Trace {
@@ -46,7 +46,7 @@ impl<'a> Record<'a> {
     /// # let read = |name| std::fs::read(format!("../../../examples/three_components/{name}"));
     /// # let (r, s, x) = (read("set.r01")?, read("set.s01")?, read("set.x01")?);
     /// let record = sps::Set::new(sps::Medium::Disc, &r, &s, &x).record(b"100   ", 11);
-    /// assert_eq!(record.channel(6)?, Some(sps::Trace { r_line: 23, component: 3 }));
+    /// assert_eq!(record.channel(6)?, Some(sps::Trace { r_line: 26, component: 3 }));
     /// assert_eq!(record.channel(10)?, None);
     /// # Ok::<(), Box<dyn std::error::Error>>(())
     /// ```
@@ -62,7 +62,7 @@ impl<'a> Record<'a> {
     /// # let read = |name| std::fs::read(format!("../../../examples/three_components/{name}"));
     /// # let (r, s, x) = (read("set.r01")?, read("set.s01")?, read("set.x01")?);
     /// let record = sps::Set::new(sps::Medium::Disc, &r, &s, &x).record(b"100   ", 11);
-    /// assert_eq!(record.receiver(23, 3)?, Some(6));
+    /// assert_eq!(record.receiver(26, 3)?, Some(6));
     /// assert_eq!(record.receiver(1, 1)?, None);
     /// # Ok::<(), Box<dyn std::error::Error>>(())
     /// ```
@@ -83,7 +83,7 @@ impl<'a> Record<'a> {
     /// let record = sps::Set::new(sps::Medium::Disc, &r, &s, &x).record(b"100   ", 11);
     /// let (mut lines, mut components) = ([9; 4], [9; 4]);
     /// assert_eq!(record.spread(&mut lines, &mut components)?, 3);
-    /// assert_eq!((lines, components), ([22, 23, 24, 9], [1, 1, 1, 9]));
+    /// assert_eq!((lines, components), ([25, 26, 27, 9], [1, 1, 1, 9]));
     /// # Ok::<(), Box<dyn std::error::Error>>(())
     /// ```
     pub fn spread(&self, lines: &mut [u16], components: &mut [u8]) -> Result<u64, Refusal> {
@@ -102,7 +102,7 @@ impl<'a> Record<'a> {
     /// let record = sps::Set::new(sps::Medium::Disc, &r, &s, &x).record(b"100   ", 11);
     /// let (mut lines, mut components) = ([9; 7], [9; 3]);
     /// assert_eq!(record.spread_bytes(&mut lines, &mut components)?, 3);
-    /// assert_eq!((lines, components), ([22, 0, 23, 0, 24, 0, 9], [1, 1, 1]));
+    /// assert_eq!((lines, components), ([25, 0, 26, 0, 27, 0, 9], [1, 1, 1]));
     /// # Ok::<(), Box<dyn std::error::Error>>(())
     /// ```
     pub fn spread_bytes(&self, lines: &mut [u8], components: &mut [u8]) -> Result<u64, Refusal> {

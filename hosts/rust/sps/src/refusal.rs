@@ -92,8 +92,8 @@ mod tests {
         let refusal = |number, file, line, column| Err(Refusal { number, file, line, column });
         assert_eq!(answer((1 << 40) - 1), Ok((1 << 40) - 1));
         assert_eq!(answer(1 << 40), refusal(Number::FileLength, None, 0, 0));
-        let x = (6 << 40) + (3 << 32) + 22 * 256 + 72;
-        assert_eq!(answer(x), refusal(Number::Channels, Some(File::X), 22, 72));
+        let x = (6 << 40) + (3 << 32) + 25 * 256 + 72;
+        assert_eq!(answer(x), refusal(Number::Channels, Some(File::X), 25, 72));
         let all = refusal(Number::Unknown(0xFF_FFFF), None, 0xFF_FFFF, 0xFF);
         assert_eq!(answer(u64::MAX), all);
     }

@@ -61,7 +61,7 @@ impl<'a> Set<'a> {
     /// let accepted = Set::new(Disc, &r, &s, &x).check()?;
     /// assert_eq!((accepted.receivers, accepted.traces), (3, 3));
     /// let refusal = Set::new(Disc, &r, &s, &r).check().unwrap_err();
-    /// assert_eq!(refusal.to_string(), "REFUSED 4 X 22 1");
+    /// assert_eq!(refusal.to_string(), "REFUSED 4 X 25 1");
     /// # Ok::<(), Box<dyn std::error::Error>>(())
     /// ```
     pub fn check(&self) -> Result<Accepted, Refusal> {

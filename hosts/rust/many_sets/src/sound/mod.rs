@@ -5,6 +5,7 @@ mod names;
 mod points;
 mod relations;
 mod shape;
+mod tables;
 
 use crate::lines::marker;
 use points::{receivers, shots};
@@ -43,9 +44,11 @@ pub fn sound(random: &mut Random) -> Sound {
         relations.iter().map(|relation| relation.traces()).sum(),
     ];
     let r = receivers.iter().map(|place| place.point(random, File::R)).collect();
+    let r = tables::few_codes(random, r);
     let s = points::in_time(random, &shots);
+    let s = tables::few_codes(random, s);
     let x: Vec<Line> = relations.iter().map(|relation| relation.line(random)).collect();
-    let block = headers::block(random);
+    let block = headers::block(random, &tables::used(&r, &s, &x));
     let set = Set::default()
         .each(|set, file| set.add_all(file, block.iter().copied()))
         .add_all(File::R, with_markers(random, File::R, r))

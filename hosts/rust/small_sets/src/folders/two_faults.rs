@@ -135,7 +135,7 @@ fn relations() -> Vec<TwoFaults> {
     let unknown = |a: Set| a.edit(X, first(), |x| x.source(900));
     let back = |a: Set| a.edit(X, below(3), |x| x.source(501));
     let returning = |a: Set| a.edit(X, below(3), |x| x.record(11));
-    let differing = |a: Set| a.edit(X, below(2), |x| x.instrument("2"));
+    let differing = |a: Set| a.edit(X, below(2), |x| x.record_increment("2"));
     let overlapping = |a: Set| a.edit(X, below(2), |x| x.channels(3, 4));
     let missing = |a: Set| a.remove(R, below(4));
     let covered = |a: Set| a.edit(X, below(2), |x| x.receivers(103, 104));

@@ -112,13 +112,14 @@ fn times() -> Vec<Case> {
 fn repeats() -> Vec<Case> {
     let s = shot;
     let again = |lines: &[Line], n| (shots(lines), refused(12, S, below(n), 2));
+    let other_code = shots(&[s(501).code("E9")]).naming(&["E9"]);
     let rows = [
         ("the shot again", again(&[s(501)], 2)),
         ("the shot again on a later day", again(&[s(501).day(200)], 2)),
         ("with leading zeros", again(&[s(501).at(18, "00000501")], 2)),
         ("with a blank index", again(&[s(501).index(" ")], 2)),
         ("as KL", again(&[s(501).code("KL")], 2)),
-        ("with another code", again(&[s(501).code("E9")], 2)),
+        ("with another code", (other_code, refused(12, S, below(3), 2))),
         ("two lines below", again(&[s(502), s(501)], 3)),
         ("behind a marker", again(&[marker(S), s(501)], 3)),
         ("with another index", (shots(&[s(501).index("2")]), accepted(3, 2, 2, 6))),

@@ -90,13 +90,21 @@ fn one_relation() -> Vec<Case> {
             x(&[a, other(), back().receivers(1, 3)]),
             refused(14, X, below(3), 14),
         ),
-        check("16 and 17 in a line", x(&[a, again().instrument("2")]), refused(16, X, below(2), 2)),
         check(
-            "16 and 18 in a line",
-            x(&[a, absent().instrument("2")]),
+            "16 and 17 in a line",
+            x(&[a, again().record_increment("2")]),
             refused(16, X, below(2), 2),
         ),
-        check("16 and 19 in a line", x(&[a, next().instrument("2")]), refused(16, X, below(2), 2)),
+        check(
+            "16 and 18 in a line",
+            x(&[a, absent().record_increment("2")]),
+            refused(16, X, below(2), 2),
+        ),
+        check(
+            "16 and 19 in a line",
+            x(&[a, next().record_increment("2")]),
+            refused(16, X, below(2), 2),
+        ),
         check(
             "17 and 18 in a line",
             x(&[a, absent().channels(3, 3)]),
@@ -121,7 +129,7 @@ fn relations() -> Vec<Case> {
         check("18 above 17", x(&[a, absent(), again()]), refused(18, X, below(2), 64)),
         check(
             "17 above 16",
-            x(&[a, again(), next().instrument("2")]),
+            x(&[a, again(), next().record_increment("2")]),
             refused(17, X, below(2), 39),
         ),
         check(
@@ -131,7 +139,7 @@ fn relations() -> Vec<Case> {
         ),
         check("13 and 15", x(&[unknown()]), refused(13, X, first(), 14)),
         check("14 and 15", x(&[other(), back()]).add(S, shot(503)), refused(14, X, below(2), 14)),
-        check("16 and 15", x(&[a, next().instrument("2")]), refused(16, X, below(2), 2)),
+        check("16 and 15", x(&[a, next().record_increment("2")]), refused(16, X, below(2), 2)),
         check("17 and 15", x(&[a, again()]).add(S, shot(503)), refused(17, X, below(2), 39)),
         check("18 and 15", x(&[a, absent()]), refused(18, X, below(2), 64)),
         check("19 and 15", x(&[a, next()]), refused(19, X, below(2), 64)),

@@ -45,7 +45,8 @@ pub fn cases() -> Vec<Case> {
     cases
 }
 
-/// Codes of the file with 1 to 9, and KL; none of the other file, and no other.
+/// Codes of the file with 1 to 9, which the header names, and KL; none of the other file, and
+/// no other.
 fn codes(file: File, line: usize, own: &str, others: &str, cases: &mut Vec<Case>) {
     let with_code = |code: &str| set_a().put(file, line, 27, code);
     let mut good = vec!["KL".to_string()];
@@ -60,7 +61,11 @@ fn codes(file: File, line: usize, own: &str, others: &str, cases: &mut Vec<Case>
     }
     bad.extend(others.chars().map(|letter| format!("{letter}1")));
     for code in good {
-        cases.push(check(format!("{file:?} code `{code}`"), with_code(&code), as_a()));
+        let set = match code.as_str() {
+            "KL" | "G1" | "V1" => with_code(&code),
+            code => with_code(code).naming(&[code]),
+        };
+        cases.push(check(format!("{file:?} code `{code}`"), set, as_a()));
     }
     for code in bad {
         cases.push(check(

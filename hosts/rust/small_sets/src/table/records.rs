@@ -71,17 +71,19 @@ fn differing() -> Vec<Case> {
     let point = beside(shot(502), second().source(502));
     let index = beside(shot(501).index("2"), second().source_index("2"));
     let name = beside(shot(501).name("L2"), second().source_name("L2"));
-    let in_order = with(&[second().instrument("2"), third().instrument("2")]);
+    // The header names the other instrument, in a line of its own.
+    let named = |lines: &[Line], instrument| with(lines).naming(&[instrument]);
+    let in_order = named(&[second().instrument("2"), third().instrument("2")], "2");
     let all = |x: Line| x.record_increment("3").instrument("4");
-    let all_alike = with(&[all(second())]).edit(X, first(), all);
+    let all_alike = with(&[all(second())]).edit(X, first(), all).naming(&["4"]);
     vec![
         case("another source point", point, no(2)),
         case("another source index", index, no(2)),
         case("another source name", name, no(2)),
         case("another record increment", with(&[second().record_increment("2")]), no(2)),
-        case("another instrument", with(&[second().instrument("2")]), no(2)),
-        case("in the third line", with(&[second(), third().instrument("9")]), no(3)),
-        case("the second line with the third", in_order, no(2)),
+        case("another instrument", named(&[second().instrument("2")], "2"), no(3)),
+        case("in the third line", named(&[second(), third().instrument("9")], "9"), no(4)),
+        case("the second line with the third", in_order, no(3)),
         case("all alike", all_alike, accepted(9, 1, 2, 6)),
         case(
             "blank and 1",
@@ -91,7 +93,7 @@ fn differing() -> Vec<Case> {
         case("another point by zeros", with(&[second().at(30, "00000501")]), accepted(9, 1, 2, 6)),
         case(
             "another record may differ in all",
-            with(&[all(second().record(12).source(502))]).add(S, shot(502)),
+            with(&[all(second().record(12).source(502))]).add(S, shot(502)).naming(&["4"]),
             accepted(9, 2, 2, 6),
         ),
         case(

@@ -34,7 +34,7 @@ const GOOD: &[(usize, &str)] = &[
     (2, "A     |1 0 0 |100  ~|-.;+~!"),
     (8, "   0|9999|0011|0000"),
     (12, " |2|9"),
-    (13, " |2|9"),
+    (13, " "),
     (30, "00000501|  000501"),
     (38, " "),
     (39, "0001| 001|99979999"),
@@ -49,6 +49,7 @@ pub fn cases() -> Vec<Case> {
     let bad = |column| refused(5, X, first(), column);
     let mut cases = texts(BAD, X, first(), bad);
     cases.extend(texts(GOOD, X, first(), |_| as_a()));
+    cases.extend(instruments());
     cases.extend(disagreements());
     cases.extend(agreements());
     cases.extend(later_lines());
@@ -58,6 +59,15 @@ pub fn cases() -> Vec<Case> {
 /// Set A with its relation line changed.
 fn with(change: impl Fn(Line) -> Line) -> Set {
     set_a().edit(X, first(), change)
+}
+
+/// Other instruments, which the header names.
+fn instruments() -> Vec<Case> {
+    let case = |digit| {
+        let set = with(|x| x.instrument(digit)).naming(&[digit]);
+        check(format!("X 13 `{digit}`"), set, as_a())
+    };
+    ["2", "3", "4", "5", "6", "7", "8", "9"].map(case).to_vec()
 }
 
 /// Each of 6's three places, and which is tried first.

@@ -266,7 +266,7 @@ fn questions() -> Vec<Case> {
     vec![
         ask("tape: channel 2", a(), trace(2), comes_from(below(2), 1)),
         ask("tape: channel 4", a(), trace(4), Answer::NoTrace),
-        ask("tape: R line 23", a(), channel(below(2), 1), Answer::Channel(2)),
+        ask("tape: the second receiver", a(), channel(below(2), 1), Answer::Channel(2)),
         ask("tape: the R line of EOF", a(), channel(after(R), 1), Answer::NoTrace),
         ask("tape: the R line after EOF", a(), channel(after(R) + 1, 1), Answer::NoTrace),
         ask("tape: a spread table", a(), spread(4, 5), filled(3, &places, 4, 5)),

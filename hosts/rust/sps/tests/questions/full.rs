@@ -17,7 +17,7 @@ const KINDS: [Ask; 3] = [trace, channel, spread];
 fn full_sets() {
     let mut random = random(48);
     let mut tally = Tally::default();
-    let survey = survey();
+    let survey = survey(1_995);
     for ask in KINDS.repeat(turns(3) as usize) {
         let question = ask(&mut random, &survey);
         tally.count(&compare(&survey, &question));

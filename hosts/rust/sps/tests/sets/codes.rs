@@ -15,8 +15,20 @@ fn character(medium: Medium, byte: u8) -> Option<u8> {
     }
 }
 
+/// Set A with all codes named, on disc and on tape, and how far its own lines move down.
+fn media() -> ([Set; 2], usize) {
+    let codes: Vec<[u8; 2]> = [R, S].into_iter().flat_map(codes).collect();
+    let text = |code: &[u8; 2]| String::from_utf8_lossy(code).into_owned();
+    let others = codes.iter().filter(|code| ![b"G1", b"V1", b"PM", b"KL"].contains(code));
+    let others: Vec<String> = others.map(text).collect();
+    let others: Vec<&str> = others.iter().map(String::as_str).collect();
+    let set = set_a().naming(&others);
+    let tape = set.on_tape().expect("characters of a tape");
+    ([set, tape], others.len())
+}
+
 /// Holds each code of a line. A byte that is not taken is 3 at its column. A code of the
-/// list leaves set A accepted, but PM, which leaves its relation line without a point;
+/// list leaves the set accepted, but PM, which leaves its relation line without a point;
 /// every other is 5 at column 27.
 fn hold(mut set: Set, file: File, line: usize, without: Answer) {
     let at = set.start(line) + 26;
@@ -39,20 +51,18 @@ fn hold(mut set: Set, file: File, line: usize, without: Answer) {
     assert_eq!(taken, listed.len() - 1, "{file:?}, {:?}", set.medium);
 }
 
-fn media() -> [Set; 2] {
-    [set_a(), set_a().on_tape().expect("characters of a tape")]
-}
-
 /// A marker is no receiver: 18.
 #[test]
 fn each_code_in_r() {
-    let without = refused(18, X, first() as u64, 64);
-    media().into_iter().for_each(|set| hold(set, R, below(2), without));
+    let (sets, down) = media();
+    let without = refused(18, X, (first() + down) as u64, 64);
+    sets.into_iter().for_each(|set| hold(set, R, below(2) + down, without));
 }
 
 /// A marker is no shot: 13.
 #[test]
 fn each_code_in_s() {
-    let without = refused(13, X, first() as u64, 14);
-    media().into_iter().for_each(|set| hold(set, S, first(), without));
+    let (sets, down) = media();
+    let without = refused(13, X, (first() + down) as u64, 14);
+    sets.into_iter().for_each(|set| hold(set, S, first() + down, without));
 }

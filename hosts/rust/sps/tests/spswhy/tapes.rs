@@ -88,7 +88,7 @@ fn the_other_medium() {
     let all = NAMES.join(", ");
     let like_tape = "looks like a tape, which --tape judges";
     let like_disc = "looks like a disc file, which is judged without --tape";
-    let (length, byte) = ("REFUSED 1 R 25 0\n", "REFUSED 3 X 1 1\n");
+    let (length, byte) = ("REFUSED 1 R 28 0\n", "REFUSED 3 X 1 1\n");
     assert_eq!(
         last_line("tape_as_disc", on_tape.clone(), Medium::Disc, length),
         format!("each of {all} {like_tape}")

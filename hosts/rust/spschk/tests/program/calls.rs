@@ -73,18 +73,18 @@ fn a_buffer_is_filled_in_pieces() {
 }
 
 /// A read that fails after bytes have come, or where the end would be told: what came is
-/// no file. Each file of set A has three reads of at most 1,000 bytes.
+/// no file. Each file of set A has three reads of at most 1,200 bytes.
 #[test]
 fn a_later_read_that_fails_is_no_file() {
     let set = set_a();
-    assert!(File::ALL.into_iter().all(|file| set.file(file).len().div_ceil(1_000) == 2));
+    assert!(File::ALL.into_iter().all(|file| set.file(file).len().div_ceil(1_200) == 2));
     let folder = Folder::of("failing_later", &set);
     for (file, reads) in [(R, 1..=3), (S, 4..=6), (X, 7..=9)] {
         for read in reads {
-            let line = says(&folder, &[("CALLS_PIECE", 1_000), ("CALLS_FAIL", read)]);
+            let line = says(&folder, &[("CALLS_PIECE", 1_200), ("CALLS_FAIL", read)]);
             assert_eq!(line, no_file(file), "read {read}");
         }
     }
-    let line = says(&folder, &[("CALLS_PIECE", 1_000), ("CALLS_FAIL", 10)]);
+    let line = says(&folder, &[("CALLS_PIECE", 1_200), ("CALLS_FAIL", 10)]);
     assert_eq!(line, "ACCEPTED 3 1 1 3\n");
 }
