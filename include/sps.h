@@ -18,13 +18,19 @@
  *
  * with the numbers and files of the enums below; file, line and column are 0 where there is none.
  * It is never below 2^40, and every other answer is: the traces, R line * 16 + component, the
- * channel, or the highest channel, and 0 where there is none. An accepted set without traces
- * answers 0 too. The inline functions at the end take a number apart.
+ * channel, the highest channel or the header line, and 0 where there is none. An accepted set
+ * without traces answers 0 too. The inline functions at the end take a number apart.
  *
  * A refusal is the first breach in this order: a medium that is neither (20, before all else); a
  * question out of range (20); the form of R, then S, then X (1, 2, on tape 29, then 3 to 6 line by
- * line); the headers (7 to 9); the receivers (10); the shots (11, 12); the relations (13, 14, 16 to
- * 19); a shot that none names (15); slices too short (21). It writes nothing.
+ * line); the headers (7 to 9); the code tables (24, then 25 over R, S and X); the receivers (10);
+ * the shots (11, 12); the relations (13, 14, 16 to 19); a shot that none names (15); slices too
+ * short (21). It writes nothing.
+ *
+ * The first records of the code tables in the header name codes in columns 33 and 34: H600, H610,
+ * .. H690 those of receivers, H700, H720, .. H880 those of sources, H400, H420, .. H560
+ * instruments, a digit and a comma. No code is named twice (24), and each that R, S or X uses is
+ * named (25), PM and KL aside. Other header lines, and what is no code of the kind, name nothing.
  *
  * A call takes any bytes and any numbers. The medium and the numbers of a question are 64-bit, so
  * that nothing is cut before it is judged.
@@ -60,28 +66,30 @@ enum sps_medium {
  * . , ; : ( ) - + / & ' % * = ? _ < > in columns 1 to 80.
  */
 enum sps_number {
-    SPS_FILE_LENGTH = 1,     /* the file's length is no multiple of 82, on tape of 80 */
-    SPS_TOO_MANY_LINES = 2,  /* more than 9,999 lines, on tape with the EOF record */
-    SPS_BYTE = 3,            /* a byte that is not taken, or no CR or LF at 81, 82 of a disc */
-    SPS_LETTER = 4,          /* column 1 is not H or the file's letter, or H after data */
-    SPS_FIELD = 5,           /* a field breaks its rule; the column is its first */
-    SPS_CHANNELS = 6,        /* channels are crossed, or do not fit their receivers */
-    SPS_HEADER_TYPE = 7,     /* R's header lacks one of the types 00 to 20 */
-    SPS_H18 = 8,             /* an H18 that holds nothing, or N/A */
-    SPS_HEADER_DIFFERS = 9,  /* the header of S or X differs from R's */
-    SPS_RECEIVER_ORDER = 10, /* a receiver is not above the one before, in the medium's bytes */
-    SPS_SHOT_EARLIER = 11,   /* a shot is earlier than the one before it */
-    SPS_SHOT_REPEATED = 12,  /* a shot repeats an earlier one */
-    SPS_NO_SHOT = 13,        /* no shot is the relation line's source */
-    SPS_SHOT_ORDER = 14,     /* its shot stands in S before that of the previous relation line */
-    SPS_SHOT_NOT_NAMED = 15, /* no relation line names a shot */
-    SPS_RECORD = 16,         /* the lines of a record do not stand together, or differ */
-    SPS_CHANNEL_ORDER = 17,  /* the channels of a record do not ascend */
-    SPS_NO_RECEIVER = 18,    /* a covered receiver is not there */
-    SPS_COVERED_TWICE = 19,  /* a receiver is covered twice in a record */
-    SPS_QUESTION_RANGE = 20, /* a question is out of range, or the medium is neither */
-    SPS_SLICE_LENGTH = 21,   /* a slice of the spread table is too short */
-    SPS_TAPE_END = 29        /* no EOF record ends the tape, or records follow the first */
+    SPS_FILE_LENGTH = 1,       /* the file's length is no multiple of 82, on tape of 80 */
+    SPS_TOO_MANY_LINES = 2,    /* more than 9,999 lines, on tape with the EOF record */
+    SPS_BYTE = 3,              /* a byte that is not taken, or no CR or LF at 81, 82 of a disc */
+    SPS_LETTER = 4,            /* column 1 is not H or the file's letter, or H after data */
+    SPS_FIELD = 5,             /* a field breaks its rule; the column is its first */
+    SPS_CHANNELS = 6,          /* channels are crossed, or do not fit their receivers */
+    SPS_HEADER_TYPE = 7,       /* R's header lacks one of the types 00 to 20 */
+    SPS_H18 = 8,               /* an H18 that holds nothing, or N/A */
+    SPS_HEADER_DIFFERS = 9,    /* the header of S or X differs from R's */
+    SPS_RECEIVER_ORDER = 10,   /* a receiver is not above the one before, in the medium's bytes */
+    SPS_SHOT_EARLIER = 11,     /* a shot is earlier than the one before it */
+    SPS_SHOT_REPEATED = 12,    /* a shot repeats an earlier one */
+    SPS_NO_SHOT = 13,          /* no shot is the relation line's source */
+    SPS_SHOT_ORDER = 14,       /* its shot stands in S before that of the previous relation line */
+    SPS_SHOT_NOT_NAMED = 15,   /* no relation line names a shot */
+    SPS_RECORD = 16,           /* the lines of a record do not stand together, or differ */
+    SPS_CHANNEL_ORDER = 17,    /* the channels of a record do not ascend */
+    SPS_NO_RECEIVER = 18,      /* a covered receiver is not there */
+    SPS_COVERED_TWICE = 19,    /* a receiver is covered twice in a record */
+    SPS_QUESTION_RANGE = 20,   /* a question is out of range, or the medium is neither */
+    SPS_SLICE_LENGTH = 21,     /* a slice of the spread table is too short */
+    SPS_CODE_NAMED_TWICE = 24, /* a code table names a code that an earlier one names */
+    SPS_CODE_NOT_NAMED = 25,   /* a code or an instrument is used that no code table names */
+    SPS_TAPE_END = 29          /* no EOF record ends the tape, or records follow the first */
 };
 
 /* The file of a refusal. */
@@ -94,7 +102,7 @@ enum sps_file {
 
 /*
  * Checks a set. Answers the number of its traces, which are the channels of all relation lines, or
- * a refusal, 1 to 19 or 29, and 20 for the medium.
+ * a refusal, 1 to 19, 24, 25 or 29, and 20 for the medium.
  */
 uint64_t sps_check(uint64_t medium, const uint8_t *r, size_t r_len, const uint8_t *s,
                    size_t s_len, const uint8_t *x, size_t x_len);
@@ -121,7 +129,7 @@ uint64_t sps_counts(uint64_t medium, const uint8_t *r, size_t r_len, const uint8
 
 /*
  * From a trace to its receiver. Answers R line * 16 + component, 0 where there is no such trace, or
- * a refusal, 1 to 20 or 29.
+ * a refusal, 1 to 20, 24, 25 or 29.
  *
  * The tape is 6 columns of bytes 32 to 126 of which the first is no blank, the record is 0 to 9999,
  * the channel 1 to 9999. Anything else is refused with 20, before the set is looked at.
@@ -133,7 +141,7 @@ uint64_t sps_trace(uint64_t medium, const uint8_t *r, size_t r_len, const uint8_
 /*
  * The way back, from a line of R and a component to the channel. Answers the channel, 0 where there
  * is no such trace (also where the line is a header, a marker, an EOF record or beyond the file),
- * or a refusal, 1 to 20 or 29.
+ * or a refusal, 1 to 20, 24, 25 or 29.
  *
  * The tape and the record are as for sps_trace, the line is 1 to 9999, the component 1 to 9.
  */
@@ -143,7 +151,7 @@ uint64_t sps_channel(uint64_t medium, const uint8_t *r, size_t r_len, const uint
 
 /*
  * The spread table of a record. Answers its highest covered channel, 0 where the record is absent,
- * or a refusal, 1 to 21 or 29. The tape and the record are as for sps_trace.
+ * or a refusal, 1 to 21, 24, 25 or 29. The tape and the record are as for sps_trace.
  *
  * Place c-1 takes the R line and the component of channel c, or 0 and 0 where c is not covered, for
  * each c up to the answer. Later places stay, and an absent record writes nothing. A place of
@@ -155,6 +163,25 @@ uint64_t sps_spread(uint64_t medium, const uint8_t *r, size_t r_len, const uint8
                     size_t s_len, const uint8_t *x, size_t x_len, const uint8_t *tape,
                     size_t tape_len, uint64_t record, uint8_t *lines, size_t lines_len,
                     uint8_t *components, size_t components_len);
+
+/* The kinds of codes, by the letter of the file that uses them. */
+enum sps_kind {
+    SPS_RECEIVER_CODE = 82,  /* R */
+    SPS_SOURCE_CODE = 83,    /* S */
+    SPS_INSTRUMENT_CODE = 88 /* X */
+};
+
+/*
+ * From a code to the line of R's header that names it, which says what it was. Answers the line, 0
+ * where none does, or a refusal, 1 to 20, 24, 25 or 29.
+ *
+ * The kind is one of enum sps_kind. The code is two bytes of ASCII, G H R with a digit 1 to 9 for
+ * receivers, V E A W S with one for sources, or the digit alone for instruments. Anything else, PM
+ * and KL too, is refused with 20, before the set is looked at.
+ */
+uint64_t sps_table_line(uint64_t medium, const uint8_t *r, size_t r_len, const uint8_t *s,
+                        size_t s_len, const uint8_t *x, size_t x_len, uint64_t kind,
+                        const uint8_t *code, size_t code_len);
 
 /* Whether an answer is a refusal: 1 or 0. */
 static inline int sps_is_refused(uint64_t answer)

@@ -19,6 +19,14 @@ static void put(struct bytes file, size_t line, size_t column, const char *text)
     memcpy(file.at + (line - 1) * 82 + column - 1, text, strlen(text));
 }
 
+/* The same in all three files. */
+static void put_in_all(struct set set, size_t line, size_t column, const char *text)
+{
+    put(set.r, line, column, text);
+    put(set.s, line, column, text);
+    put(set.x, line, column, text);
+}
+
 /*
  * The answer with counts: the places of a slice of some bytes that are written, and what they hold.
  * All else stays, also a byte behind.
@@ -77,6 +85,29 @@ static void lookups(struct set set)
     SAME(sps_trace(FILES(set), tape, 6, 12, 2), 0);
     SAME(sps_channel(FILES(set), tape, 6, 11, LAST_HEADER, 1), 0);
     SAME(sps_channel(FILES(set), tape, 6, 11, 9999, 9), 0);
+}
+
+/* The header lines of set A that name its codes, which are its last three. */
+static void table_lines(struct set set)
+{
+    const uint64_t no = refusal(SPS_QUESTION_RANGE, SPS_NO_FILE, 0, 0);
+    static const uint8_t g1[] = {'G', '1', ' '}, g2[] = {'G', '2'}, v1[] = {'V', '1'};
+    static const uint8_t pm[] = {'P', 'M'}, one[] = {'1', ','}, two[] = {'2'};
+    SAME(sps_table_line(FILES(set), SPS_INSTRUMENT_CODE, one, 1), LAST_HEADER - 2);
+    SAME(sps_table_line(FILES(set), SPS_RECEIVER_CODE, g1, 2), LAST_HEADER - 1);
+    SAME(sps_table_line(FILES(set), SPS_SOURCE_CODE, v1, 2), LAST_HEADER);
+    SAME(sps_table_line(FILES(set), SPS_RECEIVER_CODE, g2, 2), 0);
+    SAME(sps_table_line(FILES(set), SPS_INSTRUMENT_CODE, two, 1), 0);
+    SAME(sps_table_line(FILES(set), SPS_RECEIVER_CODE, v1, 2), no);
+    SAME(sps_table_line(FILES(set), SPS_SOURCE_CODE, g1, 2), no);
+    SAME(sps_table_line(FILES(set), SPS_RECEIVER_CODE, pm, 2), no);
+    SAME(sps_table_line(FILES(set), SPS_RECEIVER_CODE, g1, 1), no);
+    SAME(sps_table_line(FILES(set), SPS_RECEIVER_CODE, g1, 3), no);
+    SAME(sps_table_line(FILES(set), SPS_INSTRUMENT_CODE, one, 2), no);
+    SAME(sps_table_line(FILES(set), SPS_INSTRUMENT_CODE, NULL, 0), no);
+    SAME(sps_table_line(FILES(set), 0, g1, 2), no);
+    SAME(sps_table_line(FILES(set), SPS_RECEIVER_CODE + 256, g1, 2), no);
+    SAME(sps_table_line(FILES(set), (UINT64_C(1) << 32) + SPS_RECEIVER_CODE, g1, 2), no);
 }
 
 /* Questions out of range, also where fewer bits would be in range. */
@@ -145,6 +176,7 @@ static void nothing(struct set set)
     refused(none, no_header);
     SAME(sps_trace(FILES(none), tape, 6, 11, 2), no_header);
     SAME(sps_channel(FILES(none), tape, 6, 11, SECOND, 1), no_header);
+    SAME(sps_table_line(FILES(none), SPS_INSTRUMENT_CODE, (const uint8_t *)"1", 1), no_header);
     SAME(sps_spread(FILES(none), tape, 6, 11, NULL, 0, NULL, 0), no_header);
     one.s = none.s;
     refused(one, refusal(SPS_HEADER_DIFFERS, SPS_S, 1, 0));
@@ -180,6 +212,19 @@ static void edits(struct set set)
     refused(set, refusal(SPS_RECEIVER_ORDER, SPS_R, THIRD, 2));
     put(set.r, THIRD, 18, "     103");
 
+    put(set.r, THIRD, 27, "G2");
+    answer = refusal(SPS_CODE_NOT_NAMED, SPS_R, THIRD, 27);
+    refused(set, answer);
+    SAME(sps_table_line(FILES(set), SPS_RECEIVER_CODE, (const uint8_t *)"G1", 2), answer);
+    put(set.r, THIRD, 27, "G1");
+
+    put_in_all(set, LAST_HEADER, 2, "610");
+    refused(set, refusal(SPS_CODE_NOT_NAMED, SPS_S, FIRST, 27));
+    put_in_all(set, LAST_HEADER, 33, "G1");
+    refused(set, refusal(SPS_CODE_NAMED_TWICE, SPS_R, LAST_HEADER, 33));
+    put_in_all(set, LAST_HEADER, 2, "700");
+    put_in_all(set, LAST_HEADER, 33, "V1");
+
     put(set.s, FIRST, 82, "\r");
     refused(set, refusal(SPS_BYTE, SPS_S, FIRST, 82));
     put(set.s, FIRST, 82, "\n");
@@ -192,6 +237,7 @@ static void refused_by_all(struct set set, uint64_t expected)
     refused(set, expected);
     SAME(sps_trace(FILES(set), tape, 6, 11, 2), expected);
     SAME(sps_channel(FILES(set), tape, 6, 11, SECOND, 1), expected);
+    SAME(sps_table_line(FILES(set), SPS_RECEIVER_CODE, (const uint8_t *)"G1", 2), expected);
     spread(set, 11, 6, 3, expected, 0);
 }
 
@@ -236,6 +282,7 @@ static void media(struct set set)
         refused_by_all(cut, no);
         SAME(sps_trace(FILES(cut), tape, 6, 11, 0), no);
         SAME(sps_trace(FILES(cut), NULL, 0, 11, 2), no);
+        SAME(sps_table_line(FILES(set), 0, NULL, 0), no);
         SAME(sps_channel(FILES(cut), tape, 6, 11, SECOND, 10), no);
         spread(cut, UINT64_MAX, 6, 3, no, 0);
         spread(set, 11, 0, 0, no, 0);
@@ -264,6 +311,7 @@ static void both(struct set set)
 {
     accepted(set);
     lookups(set);
+    table_lines(set);
     out_of_range(set);
     spreads(set);
     media(set);

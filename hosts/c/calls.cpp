@@ -14,8 +14,8 @@ using Bytes = std::vector<std::uint8_t>;
 
 int failures = 0;
 
-// The receivers of set A by their lines in R.
-const unsigned FIRST = 25, SECOND = 26, THIRD = 27;
+// The table of set A for G1, and its receivers, by their lines in R.
+const unsigned OF_G1 = 23, FIRST = 25, SECOND = 26, THIRD = 27;
 
 template <typename Found, typename Expected>
 void same(const char *what, const Found &found, const Expected &expected)
@@ -63,6 +63,11 @@ struct Set {
                           tape.data(), tape.size(), record, lines.data(), lines.size(),
                           components.data(), components.size());
     }
+    std::uint64_t table_line(std::uint64_t kind, const Bytes &code) const
+    {
+        return sps_table_line(medium, r.data(), r.size(), s.data(), s.size(), x.data(), x.size(),
+                              kind, code.data(), code.size());
+    }
 };
 
 Set read_set(std::uint64_t medium, const std::string &folder)
@@ -104,6 +109,11 @@ void answers(const Set &set)
     same("the components", components, ones);
     same("a line of the table", sps_spread_line(lines.data(), 3), THIRD);
     same("a tape too short", sps_refusal_number(set.trace({'1'}, 11, 3)), SPS_QUESTION_RANGE);
+    same("the line of G1", set.table_line(SPS_RECEIVER_CODE, {'G', '1'}), OF_G1);
+    same("no line of 2", set.table_line(SPS_INSTRUMENT_CODE, {'2'}), 0u);
+    same("a code of another kind", sps_refusal_number(set.table_line(SPS_SOURCE_CODE, {'G', '1'})),
+         SPS_QUESTION_RANGE);
+    same("no code", sps_refusal_number(set.table_line(SPS_RECEIVER_CODE, {})), SPS_QUESTION_RANGE);
 }
 
 // A byte more at the end of R, whose last line is given.
@@ -119,6 +129,7 @@ void refusals(Set set, unsigned last)
     same("the line", sps_refusal_line(answer), last + 1);
     same("the column", sps_refusal_column(answer), 0u);
     same("the counts of a refusal", counts, stays);
+    same("the line of a code", set.table_line(SPS_RECEIVER_CODE, {'G', '1'}), answer);
 }
 
 // Files of no byte, and a medium that is neither.

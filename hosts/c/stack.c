@@ -1,6 +1,6 @@
 /*
  * Every call in a thread of a small stack. The arguments are the medium and the folder of a set of
- * 9,999 lines a file, and the record to ask for, on tape 100. It prints the five answers in one
+ * 9,999 lines a file, and the record to ask for, on tape 100. It prints the six answers in one
  * line.
  */
 #include "try.h"
@@ -13,11 +13,11 @@ enum { STACK = 204800 };
 static const uint8_t tape[] = {'1', '0', '0', ' ', ' ', ' '};
 static uint8_t lines[19998], components[9999];
 
-/* The five answers of a set. */
+/* The six answers of a set. */
 struct answers {
     struct set set;
     uint64_t record;
-    uint64_t check, counts, trace, channel, spread;
+    uint64_t check, counts, trace, channel, spread, table_line;
 };
 
 static void *ask(void *lent)
@@ -30,6 +30,8 @@ static void *ask(void *lent)
     to->channel = sps_channel(FILES(to->set), tape, 6, to->record, 9999, 1);
     to->spread = sps_spread(FILES(to->set), tape, 6, to->record, lines, sizeof lines, components,
                             sizeof components);
+    to->table_line =
+        sps_table_line(FILES(to->set), SPS_RECEIVER_CODE, (const uint8_t *)"G1", 2);
     return NULL;
 }
 
@@ -50,9 +52,10 @@ int main(int count, char **words)
         fprintf(stderr, "no thread of %d bytes of stack\n", STACK);
         return 2;
     }
-    printf("%llu %llu %llu %llu %llu\n", (unsigned long long)to.check, (unsigned long long)to.counts,
-           (unsigned long long)to.trace, (unsigned long long)to.channel,
-           (unsigned long long)to.spread);
+    printf("%llu %llu %llu %llu %llu %llu\n", (unsigned long long)to.check,
+           (unsigned long long)to.counts, (unsigned long long)to.trace,
+           (unsigned long long)to.channel, (unsigned long long)to.spread,
+           (unsigned long long)to.table_line);
     free_set(to.set);
     return 0;
 }

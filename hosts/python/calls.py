@@ -16,12 +16,12 @@ BYTES = [ctypes.POINTER(ctypes.c_uint8), SIZE]
 
 DISC, TAPE = 1, 2
 
-# The receivers of set A by their lines in R.
-FIRST, SECOND, THIRD = 25, 26, 27
+# The tables of set A for 1, G1 and V1, and its receivers, by their lines in R.
+OF_1, OF_G1, OF_V1, FIRST, SECOND, THIRD = 22, 23, 24, 25, 26, 27
 
 
 def library(path):
-    """The five calls with their types."""
+    """The six calls with their types."""
     sps = ctypes.CDLL(path)
     types = {
         "sps_check": [],
@@ -29,6 +29,7 @@ def library(path):
         "sps_trace": RECORD + [U64],
         "sps_channel": RECORD + [U64, U64],
         "sps_spread": RECORD + BYTES + BYTES,
+        "sps_table_line": [U64, ctypes.c_char_p, SIZE],
     }
     for name, rest in types.items():
         call = getattr(sps, name)
@@ -58,6 +59,10 @@ def answers(sps, set_a):
     assert sps.sps_trace(*set_a, *record, 2) == SECOND * 16 + 1
     assert sps.sps_channel(*set_a, *record, SECOND, 1) == 2
     assert sps.sps_trace(*set_a, *record, 4) == 0
+    assert sps.sps_table_line(*set_a, ord("X"), b"1", 1) == OF_1
+    assert sps.sps_table_line(*set_a, ord("R"), b"G1", 2) == OF_G1
+    assert sps.sps_table_line(*set_a, ord("S"), b"V1", 2) == OF_V1
+    assert sps.sps_table_line(*set_a, ord("R"), b"G2", 2) == 0
 
     lines = (ctypes.c_uint8 * 7)(*[238] * 7)
     components = (ctypes.c_uint8 * 3)()
@@ -80,6 +85,9 @@ def refusals(sps, set_a, last):
     assert sps.sps_check(TAPE, None, 0, None, 0, None, 0) == refusal(29, 1, 1, 0)
     assert sps.sps_trace(*set_a, b"100", 3, 11, 2) == refusal(20, 0, 0, 0)
     assert sps.sps_trace(*set_a, b"100   ", 6, 2**64 - 1, 2) == refusal(20, 0, 0, 0)
+    for kind, code in ((ord("R"), b"V1"), (ord("S"), b"KL"), (ord("X"), b"1,"), (ord("H"), b"G1"), (2**32 + 82, b"G1")):
+        assert sps.sps_table_line(*set_a, kind, code, 2) == refusal(20, 0, 0, 0)
+    assert sps.sps_table_line(*cut, ord("R"), b"G1", 2) == refusal(1, 1, last, 0)
 
     lines = (ctypes.c_uint8 * 5)(*[238] * 5)
     components = (ctypes.c_uint8 * 3)(*[238] * 3)

@@ -4,7 +4,7 @@
 //! stands in one line, `damage` changes it. `sound` makes whole sets, `media` those of
 //! which a tape can be made, `spellings` writes their decimals with points or without,
 //! `backwards` lays their spreads out backwards, `faults` changes them; `large` has those of
-//! full size. `questions` asks for traces.
+//! full size. `questions` asks for traces and codes.
 
 #![forbid(unsafe_code)]
 

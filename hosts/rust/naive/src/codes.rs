@@ -37,6 +37,11 @@ pub fn is_code(file: File, bytes: &[u8]) -> bool {
     FAMILIES.iter().any(|family| stands_in(family, file) && has(family, bytes))
 }
 
+/// Whether the bytes are a code of a file with a digit, which a code table may name.
+pub fn is_numbered(file: File, bytes: &[u8]) -> bool {
+    FAMILIES.iter().any(|family| family.1 == DIGIT && stands_in(family, file) && has(family, bytes))
+}
+
 fn stands_in((_, _, points): &Family, file: File) -> bool {
     match points {
         Receivers => file == File::R,

@@ -44,7 +44,7 @@ impl HostNumber for Trace {
     }
 }
 
-/// A channel, or the highest one.
+/// A channel, the highest one, or a line.
 impl HostNumber for u16 {
     fn host_number(&self) -> u64 {
         u64::from(*self)

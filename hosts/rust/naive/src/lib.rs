@@ -1,5 +1,5 @@
 //! A naive reader of SPS sets: the second opinion on the set check, the two
-//! lookups, the spread table and the showing of a line.
+//! lookups, the spread table, the lines of code tables and the showing of a line.
 //!
 //! It is written from the paper alone and shares neither code nor definitions
 //! with the proved checker. It answers every input, of any length and bytes.
@@ -7,8 +7,9 @@
 //! The way of the data: `lines` cuts a file (1 to 3) and `tape` gives the records of
 //! a tape in ASCII (3 and 29), `fields` reads one field and `codes` lists the codes of
 //! points, `point`, `relation` and `header` read one line (5 and 6), `form` puts a whole
-//! file together (1 to 6), `set` compares the three files (7 to 19) and counts, `traces`
-//! answers questions of an accepted set (20 and 21). `show` and `host` stand apart.
+//! file together (1 to 6), `set` compares the three files (7 to 19) and counts, `tables`
+//! has the codes that the header names (24 and 25), `traces` answers questions of an
+//! accepted set (20 and 21). `show` and `host` stand apart.
 
 #![forbid(unsafe_code)]
 
@@ -22,6 +23,7 @@ mod point;
 mod relation;
 mod set;
 mod show;
+mod tables;
 mod tape;
 mod traces;
 
@@ -139,6 +141,18 @@ pub fn spread(
 ) -> Result<u16, Refusal> {
     let asked = traces::asked(tape, record)?;
     set::read(medium, files)?.spread(asked, lines, components)
+}
+
+/// The header line of R that names a code, by the letter of its kind: R for receivers, S for
+/// sources, X for instruments. `None` is "none".
+pub fn table_line(
+    medium: Medium,
+    files: Files,
+    letter: u64,
+    code: &[u8],
+) -> Result<Option<u16>, Refusal> {
+    let code = tables::Code::asked(letter, code)?;
+    Ok(set::read(medium, files)?.tables.line(code))
 }
 
 /// Reads the 80 columns of a line of R or S to its values: rule 5. In R the

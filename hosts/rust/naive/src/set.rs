@@ -1,6 +1,7 @@
-//! The three files as one set: 7 to 19 in their order, and the counts.
+//! The three files as one set: 7 to 19, 24 and 25 in their order, and the counts.
 
 use crate::form::Form;
+use crate::tables::Tables;
 use crate::{header, point, refusal, relation, tape};
 use crate::{Counts, Fault, File, Files, Medium, Place, Point, PointLine, Refusal, Relation};
 use std::collections::{HashMap, HashSet};
@@ -11,6 +12,7 @@ pub struct Set {
     pub r_lines: HashMap<Place, u32>,
     /// The relation lines in the order of X.
     pub relations: Vec<Relation>,
+    pub tables: Tables,
     pub counts: Counts,
 }
 
@@ -20,6 +22,8 @@ pub fn read(medium: Medium, [r, s, x]: Files) -> Result<Set, Refusal> {
     let s = Form::of(medium, File::S, s, |line| point::read(File::S, line))?;
     let x = Form::of(medium, File::X, x, relation::read)?;
     header::check(&r.headers, &s.headers, &x.headers)?;
+    let tables = Tables::read(&r.headers)?;
+    tables.name_all(&r, &s, &x)?;
     let r_lines = receivers(medium, &r)?;
     let s_lines = shots(&s)?;
     let mut walk = Walk::new(&r_lines, &s_lines);
@@ -33,11 +37,11 @@ pub fn read(medium: Medium, [r, s, x]: Files) -> Result<Set, Refusal> {
         relations: x.data.len() as u64,
         traces: x.data.iter().map(Relation::traces).sum(),
     };
-    Ok(Set { r_lines, relations: x.data, counts })
+    Ok(Set { r_lines, relations: x.data, tables, counts })
 }
 
 /// The lines that are not PM, with their line numbers.
-fn points(form: &Form<PointLine>) -> impl Iterator<Item = (u32, &Point)> {
+pub fn points(form: &Form<PointLine>) -> impl Iterator<Item = (u32, &Point)> {
     form.numbered().filter_map(|(line, read)| match read {
         PointLine::Point(point) => Some((line, point)),
         PointLine::Marker(_) => None,

@@ -1,8 +1,8 @@
 //! Any bytes of any length get an answer, and every refusal has a place that
 //! its rule can name.
 
-use naive::{channel, show, spread, trace, Counts, File, Refusal};
-use small_sets::place::{below, first, last_header};
+use naive::{channel, show, spread, table_line, trace, Counts, File, Refusal};
+use small_sets::place::{below, first, header_line, last_header};
 use small_sets::{set_a, tape, Medium, Random, Set};
 use std::collections::BTreeSet;
 
@@ -29,6 +29,9 @@ fn may_name(number: u8, file: File, column: u8) -> bool {
         (13 | 14, X) => column == 14,
         (17, X) => column == 39,
         (18 | 19, X) => column == 64,
+        (24, R) => column == 33,
+        (25, R | S) => column == 27,
+        (25, X) => column == 13,
         _ => false,
     }
 }
@@ -70,10 +73,13 @@ fn ask(set: &Set) {
         assert_eq!(highest, Err(refusal));
         assert_eq!(trace(medium, files, tape, 11, 2), Err(refusal));
         assert_eq!(channel(medium, files, tape, 11, below(2) as u64, 1), Err(refusal));
+        assert_eq!(table_line(medium, files, b'R'.into(), b"G1"), Err(refusal));
         assert!(lines.iter().all(|&line| line == 7) && components.iter().all(|&c| c == 7));
         return;
     }
     let highest = highest.expect("the set is accepted");
+    let named = table_line(medium, files, b'R'.into(), b"G1").expect("the set is accepted");
+    assert_eq!(named, Some(header_line(600) as u16));
     for asked in [1, 2, 3, 4, 9_999] {
         let place = asked as usize - 1;
         let found = trace(medium, files, tape, 11, asked).expect("the set is accepted");
@@ -202,7 +208,7 @@ fn random_damage() {
         }
     }
     assert!(accepted > 100, "{accepted} accepted");
-    for number in [4, 5, 6, 10, 11, 12, 13, 15, 16, 17, 18] {
+    for number in [4, 5, 6, 10, 11, 12, 13, 15, 16, 17, 18, 25] {
         assert!(numbers.contains(&number), "no {number} in {numbers:?}");
     }
 }

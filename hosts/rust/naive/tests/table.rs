@@ -47,6 +47,6 @@ macro_rules! sections {
 }
 
 sections! {
-    paper files headers points decimals markers relations order records covers backwards
+    paper files headers points decimals markers relations order records covers backwards code_tables
     questions pairs_of_form pairs_of_set answers tapes
 }

@@ -27,6 +27,11 @@ pub enum Question {
         lines_len: usize,
         components_len: usize,
     },
+    /// The kind is the letter R, S or X, as its byte.
+    TableLine {
+        kind: u64,
+        code: Vec<u8>,
+    },
 }
 
 #[derive(Clone, Debug, PartialEq, Eq)]
@@ -57,6 +62,9 @@ pub enum Answer {
         lines: Vec<u16>,
         components: Vec<u8>,
     },
+    /// The header line that names a code.
+    TableLine(u16),
+    NotNamed,
 }
 
 #[derive(Clone, Debug)]
@@ -82,6 +90,9 @@ impl fmt::Display for Question {
                 let tape = tape.escape_ascii();
                 write!(f, "`{tape}` {record}, slices of {lines_len} and {components_len}")
             }
+            Question::TableLine { kind, code } => {
+                write!(f, "code `{}` of kind {kind}", code.escape_ascii())
+            }
         }
     }
 }
@@ -97,7 +108,8 @@ impl Answer {
             }
             Answer::Trace { r_line, component } => u64::from(r_line) * 16 + u64::from(component),
             Answer::Channel(channel) => u64::from(channel),
-            Answer::NoTrace => 0,
+            Answer::TableLine(line) => u64::from(line),
+            Answer::NoTrace | Answer::NotNamed => 0,
             Answer::Spread { highest, .. } => u64::from(highest),
         }
     }

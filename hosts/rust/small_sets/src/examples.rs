@@ -1,9 +1,9 @@
-//! Sets of the paper's table, one in another spelling and one laid out backwards, as folders
-//! to look at, with the program's line.
+//! Sets of the paper's table, one in another spelling, one laid out backwards and one with more
+//! codes, as folders to look at, with the program's line.
 
 use crate::place::{below, first};
 use crate::table::write::{accepted, as_a, refused};
-use crate::table::{backwards, decimals, paper};
+use crate::table::{backwards, code_tables, decimals, paper};
 use crate::File::{R, S, X};
 use crate::{headers_only, set_a, Answer, Set};
 
@@ -38,6 +38,7 @@ pub fn examples() -> Vec<Example> {
         example("set_a_tape", set_a().on_tape().expect("characters of a tape"), as_a()),
         example("no_points", decimals::no_points(), as_a()),
         example("backwards", backwards::backwards(), as_a()),
+        example("code_tables", code_tables::code_tables(), accepted(3, 2, 2, 6)),
         example("three_components", paper::three_components(), accepted(3, 1, 1, 9)),
         example("headers_only", headers_only(), accepted(0, 0, 0, 0)),
         example("moved_name", paper::moved_name(), refused(5, X, first(), 14)),
@@ -47,5 +48,6 @@ pub fn examples() -> Vec<Example> {
         example("missing_receiver", paper::missing_receiver(), refused(18, X, first(), 64)),
         example("other_blanks", paper::other_blanks(), refused(18, X, first(), 64)),
         example("covered_twice", paper::covered_twice(), refused(19, X, below(2), 64)),
+        example("unnamed_code", code_tables::unnamed_code(), refused(25, R, below(3), 27)),
     ]
 }

@@ -80,6 +80,18 @@ mod c {
             components: *mut u8,
             components_len: usize,
         ) -> u64;
+        pub fn sps_table_line(
+            medium: u64,
+            r: *const u8,
+            r_len: usize,
+            s: *const u8,
+            s_len: usize,
+            x: *const u8,
+            x_len: usize,
+            kind: u64,
+            code: *const u8,
+            code_len: usize,
+        ) -> u64;
     }
 }
 
@@ -176,6 +188,24 @@ pub fn spread(
             lines.len(),
             components.as_mut_ptr(),
             components.len(),
+        )
+    }
+}
+
+pub fn table_line(Files { medium, r, s, x }: Files, kind: u64, code: &[u8]) -> u64 {
+    // SAFETY: each pointer and length are those of one slice.
+    unsafe {
+        c::sps_table_line(
+            medium,
+            r.as_ptr(),
+            r.len(),
+            s.as_ptr(),
+            s.len(),
+            x.as_ptr(),
+            x.len(),
+            kind,
+            code.as_ptr(),
+            code.len(),
         )
     }
 }

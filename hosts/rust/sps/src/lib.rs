@@ -3,7 +3,8 @@
 //! An SPS set is three files: receivers R, shots S and relations X, lines of 80
 //! columns, on disc or on tape ([`Medium`]). [`Set::check`] accepts a set with its
 //! counts, or refuses it with the first breach of the paper's rules. [`Set::record`]
-//! asks where the traces of a record come from.
+//! asks where the traces of a record come from, [`Set::table_line`] which header line
+//! names a code.
 //!
 //! ```
 //! # let read = |name| std::fs::read(format!("../../../examples/set_a/{name}"));
@@ -28,12 +29,14 @@
 #![warn(missing_docs)]
 
 mod archive;
+mod kind;
 mod medium;
 mod number;
 mod record;
 mod refusal;
 mod set;
 
+pub use kind::Kind;
 pub use medium::Medium;
 pub use number::Number;
 pub use record::{Record, Trace};

@@ -56,6 +56,10 @@ pub enum Number {
     QuestionRange,
     /// 21: a slice of the spread table is too short.
     SliceLength,
+    /// 24: a first record of a code table names a code that an earlier one names.
+    CodeNamedTwice,
+    /// 25: a code or an instrument is used that no first record names.
+    CodeNotNamed,
     /// 29: no EOF record ends the tape, or records follow the first.
     TapeEnd,
     /// No number of the paper; the calls are proved to give none.
@@ -65,13 +69,14 @@ pub enum Number {
 use Number::*;
 
 impl Number {
-    /// The numbers of the paper, 1 to 21 and 29.
+    /// The numbers of the paper, 1 to 21, 24, 25 and 29.
     ///
     /// ```
     /// # use sps::Number;
-    /// assert!(Number::ALL.iter().map(|number| number.code()).eq((1..=21).chain([29])));
+    /// let numbers = Number::ALL.iter().map(|number| number.code());
+    /// assert!(numbers.eq((1..=21).chain([24, 25, 29])));
     /// ```
-    pub const ALL: [Number; 22] = [
+    pub const ALL: [Number; 24] = [
         FileLength,
         TooManyLines,
         Byte,
@@ -93,6 +98,8 @@ impl Number {
         CoveredTwice,
         QuestionRange,
         SliceLength,
+        CodeNamedTwice,
+        CodeNotNamed,
         TapeEnd,
     ];
 
@@ -125,6 +132,8 @@ impl Number {
             CoveredTwice => 19,
             QuestionRange => 20,
             SliceLength => 21,
+            CodeNamedTwice => 24,
+            CodeNotNamed => 25,
             TapeEnd => 29,
             Unknown(code) => code,
         }
@@ -193,9 +202,18 @@ impl Number {
             QuestionRange => {
                 "the question is out of range: a medium is disc or tape, a tape name is 6 columns \
                  of bytes 32 to 126 that start with a non-blank, a record is at most 9999, \
-                 a channel and an R line are 1 to 9999, a component is 1 to 9"
+                 a channel and an R line are 1 to 9999, a component is 1 to 9, a code is that of a \
+                 receiver, a source or an instrument, as is asked, and not PM or KL"
             }
             SliceLength => "a slice of the spread table is shorter than the record's highest channel",
+            CodeNamedTwice => {
+                "the first record of a code table names a code, in columns 33 and 34, that the \
+                 first record of an earlier one names"
+            }
+            CodeNotNamed => {
+                "no first record of a code table in the header of R names this code: H600, H610 to \
+                 H690 name receivers, H700, H720 to H880 sources, H400, H420 to H560 instruments"
+            }
             TapeEnd => "no EOF record ends the tape, or records follow the first one",
             Unknown(_) => "no number of the paper",
         }

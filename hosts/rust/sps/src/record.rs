@@ -5,7 +5,7 @@ use crate::refusal::answer;
 use crate::Refusal;
 
 /// A record of a set. Each of its questions checks the set itself: a question out of
-/// range is refused first (20), then the set (1 to 19 and 29).
+/// range is refused first (20), then the set (1 to 19, 24, 25 and 29).
 ///
 /// ```
 /// # let read = |name| std::fs::read(format!("../../../examples/set_a/{name}"));

@@ -2,7 +2,7 @@
 
 use crate::archive::{self, Files};
 use crate::refusal::answer;
-use crate::{Medium, Record, Refusal};
+use crate::{Kind, Medium, Record, Refusal};
 use std::fmt;
 
 /// Three lent files on a medium, not checked yet.
@@ -51,8 +51,8 @@ impl<'a> Set<'a> {
         Set { files: Files { medium: medium.number(), r, s, x } }
     }
 
-    /// Checks the set: what it holds, or the first breach of the rules 1 to 19 and, on
-    /// tape, 29.
+    /// Checks the set: what it holds, or the first breach of the rules 1 to 19, 24, 25 and,
+    /// on tape, 29.
     ///
     /// ```
     /// # let read = |name| std::fs::read(format!("../../../examples/set_a/{name}"));
@@ -96,6 +96,27 @@ impl<'a> Set<'a> {
     /// ```
     pub fn record(&self, tape: &'a [u8], record: u64) -> Record<'a> {
         Record::new(self.files, tape, record)
+    }
+
+    /// The header line of R that names a code, from 1; `None` where none does. The code is
+    /// asked in ASCII on either medium: two bytes of a receiver's or a source's, which PM and
+    /// KL are not, or the digit of an instrument. Any other is refused first (20), then the
+    /// set.
+    ///
+    /// ```
+    /// # let read = |name| std::fs::read(format!("../../../examples/code_tables/{name}"));
+    /// # let (r, s, x) = (read("set.r01")?, read("set.s01")?, read("set.x01")?);
+    /// # use sps::{Kind, Medium, Set};
+    /// let set = Set::new(Medium::Disc, &r, &s, &x);
+    /// let line = set.table_line(Kind::Receiver, b"G2")?.expect("a table of G2");
+    /// let text = &r[(line as usize - 1) * 82..][..80];
+    /// assert_eq!(text[32..].trim_ascii(), b"G2,marsh case;");
+    /// assert_eq!(set.table_line(Kind::Receiver, b"G3")?, None);
+    /// # Ok::<(), Box<dyn std::error::Error>>(())
+    /// ```
+    pub fn table_line(&self, kind: Kind, code: &[u8]) -> Result<Option<u64>, Refusal> {
+        let line = answer(archive::table_line(self.files, kind.number(), code))?;
+        Ok((line != 0).then_some(line))
     }
 }
 

@@ -3,7 +3,7 @@
 
 use many_sets::large::{most, two_million_traces, FULL, HOSTILE};
 use naive::HostNumber;
-use small_sets::place::{below, first};
+use small_sets::place::{below, first, header_line};
 use small_sets::{File, Set};
 use std::ffi::OsStr;
 use std::fs;
@@ -126,7 +126,8 @@ fn answers(set: &Set, record: u32) -> String {
     let channel = naive::channel(medium, files, tape, record, 9_999, 1).host_number();
     let spread =
         naive::spread(medium, files, tape, record, &mut lines, &mut components).host_number();
-    format!("{checked} {checked} {trace} {channel} {spread}\n")
+    let line = naive::table_line(medium, files, b'R'.into(), b"G1").host_number();
+    format!("{checked} {checked} {trace} {channel} {spread} {line}\n")
 }
 
 /// Sets of 9,999 lines a file that differ in what has to be sorted and searched, with a
@@ -134,7 +135,7 @@ fn answers(set: &Set, record: u32) -> String {
 fn large_sets() -> Vec<(&'static str, Set, u32)> {
     let (accepted, last_record) = (two_million_traces(), most() - 1);
     let traces = 200 * most();
-    let found = format!("{traces} {traces} {} 200 200\n", 9_999 * 16 + 1);
+    let found = format!("{traces} {traces} {} 200 200 {}\n", 9_999 * 16 + 1, header_line(600));
     assert_eq!(answers(&accepted, last_record), found);
     let refused = accepted.clone().put(File::X, 9_999, 8, "   0");
     let mut sets = vec![("accepted", accepted, last_record), ("refused", refused, last_record)];
@@ -177,7 +178,7 @@ fn written(name: &str, set: &Set) -> PathBuf {
     folder
 }
 
-/// The archive has the five calls, asks for no more than `memset` and its like, and has
+/// The archive has the six calls, asks for no more than `memset` and its like, and has
 /// no memory of its own that is written: it allocates and shares nothing.
 #[test]
 fn symbols_of_the_archive() {
@@ -192,7 +193,8 @@ fn symbols_of_the_archive() {
         }
     }
     calls.sort_unstable();
-    let declared = ["sps_channel", "sps_check", "sps_counts", "sps_spread", "sps_trace"];
+    let declared =
+        ["sps_channel", "sps_check", "sps_counts", "sps_spread", "sps_table_line", "sps_trace"];
     assert_eq!(calls, declared);
 }
 

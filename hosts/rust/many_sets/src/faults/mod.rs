@@ -5,6 +5,7 @@ mod files;
 mod headers;
 mod lines;
 mod relations;
+mod tables;
 mod tapes;
 mod values;
 
@@ -16,7 +17,7 @@ use std::ops::RangeInclusive;
 /// A name, and what changes a set. Where it finds nothing to change the set stays.
 pub type Way = (&'static str, fn(&mut Random, Set) -> Set);
 
-pub const WAYS: [Way; 27] = [
+pub const WAYS: [Way; 33] = [
     ("a byte of any value", files::any_byte),
     ("a byte of lines", files::byte_of_lines),
     ("the end of a line", files::line_end),
@@ -44,6 +45,12 @@ pub const WAYS: [Way; 27] = [
     ("a header line dropped", headers::dropped),
     ("a header line in all files", headers::in_all),
     ("a header line in one file", headers::in_one),
+    ("a code named again", tables::again),
+    ("a first record more", tables::more),
+    ("a table dropped", tables::dropped),
+    ("a table changed", tables::changed),
+    ("tables exchanged", tables::exchanged),
+    ("any code used", tables::used),
 ];
 
 /// A set with one thing changed, and the name of the way.

@@ -19,7 +19,7 @@ fn edit(
 }
 
 /// Columns with a text in them, which is as wide.
-fn with(mut line: Line, (first, last): (usize, usize), text: &[u8]) -> Line {
+pub fn with(mut line: Line, (first, last): (usize, usize), text: &[u8]) -> Line {
     line.0[first - 1..last].copy_from_slice(text);
     line
 }

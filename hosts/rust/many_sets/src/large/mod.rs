@@ -6,6 +6,7 @@ mod records;
 mod seeded;
 mod shots;
 mod shuffled;
+mod tables;
 
 use crate::backwards;
 pub use seeded::seeded;
@@ -41,7 +42,7 @@ pub const ON_TAPE: [Large; 1] = [("9,954 receivers, 1,994 shots, 9,970 lines, on
 
 /// Sets that are made to take long, of any number of lines, accepted or refused as late
 /// as can be.
-pub const HOSTILE: [Large; 31] = [
+pub const HOSTILE: [Large; 34] = [
     ("one record backwards", records::one_backwards),
     ("one record backwards, the last line covers the first receiver", |lines| {
         records::covered_again(records::one_backwards(lines), own(lines))
@@ -83,6 +84,9 @@ pub const HOSTILE: [Large; 31] = [
     ("shots backwards, the last line names none", shots::no_shot),
     ("header lines alone", headers::alone),
     ("header lines alone, the last column of X differs", headers::last_column),
+    ("codes named last in a long header", tables::named_last),
+    ("codes named last in a long header, the last is the first", tables::named_again),
+    ("codes named last in a long header, the last instrument is not", tables::not_named),
 ];
 
 /// Sets of nearly a hundred million traces, the most there can be at one channel

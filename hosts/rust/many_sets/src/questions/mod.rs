@@ -1,7 +1,8 @@
 //! Questions on a set, in range and out of it. Most are about a relation line of
-//! the set: what it covers, and what is just beside that.
+//! the set: what it covers, and what is just beside that. Others are about codes.
 
 mod channels;
+mod codes;
 mod lengths;
 mod numbers;
 mod r_lines;
@@ -35,6 +36,12 @@ pub fn spread(random: &mut Random, set: &Set) -> Question {
     let highest = lengths::highest(set, &line);
     let [lines_len, components_len] = [(); 2].map(|()| lengths::length(random, highest));
     Question::Spread { tape, record, lines_len, components_len }
+}
+
+/// The header line of a code.
+pub fn table_line(random: &mut Random, set: &Set) -> Question {
+    let (kind, code) = codes::with_kind(random, set);
+    Question::TableLine { kind, code }
 }
 
 /// The relation line that a question is about; where there is none, that of set A.

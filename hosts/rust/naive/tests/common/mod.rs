@@ -27,6 +27,11 @@ pub fn answer(set: &Set, question: &Question) -> (Answer, u64) {
             }
             both(answer, |highest| Answer::Spread { highest, lines, components })
         }
+        Question::TableLine { kind, code } => {
+            both(naive::table_line(medium, files, *kind, code), |line| {
+                line.map_or(Answer::NotNamed, Answer::TableLine)
+            })
+        }
     }
 }
 

@@ -1,11 +1,11 @@
 //! Small sets as folders for the program `cases`: the rows of the paper's table
-//! that check a set, set A without points and laid out backwards, a set for each refusal
-//! number, sets with two faults, and tapes.
+//! that check a set, set A without points, laid out backwards and with more codes, a set for
+//! each refusal number, sets with two faults, and tapes.
 
 mod one_fault;
 mod two_faults;
 
-use crate::table::{backwards, decimals, paper, tapes};
+use crate::table::{backwards, code_tables, decimals, paper, tapes};
 use crate::{headers_only, set_a, Set};
 
 pub use one_fault::{one_fault, OneFault};
@@ -45,6 +45,7 @@ pub fn folders() -> Vec<Folder> {
         folder("no_points", decimals::no_points()),
         folder("backwards", backwards::backwards()),
         folder("up_and_down", backwards::up_and_down()),
+        folder("code_tables", code_tables::code_tables()),
     ];
     folders.extend(one_fault().iter().map(|case| folder(&case.name(), case.set())));
     folders.extend(two_faults().iter().map(|case| folder(case.name, case.set())));
@@ -52,7 +53,7 @@ pub fn folders() -> Vec<Folder> {
 }
 
 /// Folders of tapes, and the cases of the table that they hold.
-const TAPES: [(&str, &str); 14] = [
+const TAPES: [(&str, &str); 16] = [
     ("tape_set_a", "tape: set A"),
     ("tape_headers_only", "tape: headers only"),
     ("tape_every_character", "tape: every character in headers"),
@@ -67,11 +68,13 @@ const TAPES: [(&str, &str); 14] = [
     ("tape_digits_first", "tape: `1A`, `A1`"),
     ("tape_letters_first", "tape: `A1`, `1A`"),
     ("tape_s_on_disc", "tape: S on disc"),
+    ("tape_code_tables", "25: two of each kind, on tape"),
+    ("tape_unnamed_code", "25: G2 beside G1, on tape"),
 ];
 
 /// All folders of tapes, in the order of the lines that the program prints.
 pub fn tape_folders() -> Vec<Folder> {
-    let cases = tapes::cases();
+    let cases = [tapes::cases(), code_tables::cases()].concat();
     let set = |name| cases.iter().find(|case| case.name == name).expect("a case").set.clone();
     TAPES.map(|(name, case)| Folder { name: name.to_string(), set: set(case) }).into()
 }

@@ -1,7 +1,8 @@
 //! A set for each refusal number of the set check.
 
-use crate::line::{header, receiver, relation, shot, Line};
+use crate::line::{header, header_with, receiver, relation, shot, Line};
 use crate::place::{below, first, header_line};
+use crate::table::code_tables::with;
 use crate::File::{R, S, X};
 use crate::{set_a, Set};
 
@@ -22,7 +23,7 @@ impl OneFault {
 }
 
 pub fn one_fault() -> Vec<OneFault> {
-    [form(), headers(), points(), relations()].into_iter().flatten().collect()
+    [form(), headers(), points(), relations(), tables()].into_iter().flatten().collect()
 }
 
 fn fault(number: u8, change: fn(Set) -> Set) -> OneFault {
@@ -82,5 +83,12 @@ fn relations() -> Vec<OneFault> {
         fault(17, |set| set.add(R, receiver(104)).add(X, two_lines()[0].channels(3, 3))),
         fault(18, |set| set.remove(R, below(2))),
         fault(19, |set| set.add(R, receiver(104)).add_all(X, two_lines())),
+    ]
+}
+
+fn tables() -> Vec<OneFault> {
+    vec![
+        fault(24, |set| with(set, &[header_with(620, "G2"), header_with(610, "G2")])),
+        fault(25, |set| set.edit(X, first(), |x| x.instrument("2"))),
     ]
 }

@@ -2,8 +2,9 @@
 //! the one that is looked for first is given.
 
 use super::one_fault::ten_thousand_lines;
-use crate::line::{receiver, relation, shot};
+use crate::line::{header_with, receiver, relation, shot};
 use crate::place::{below, first, header_line, last_header};
+use crate::table::code_tables::with;
 use crate::File::{R, S, X};
 use crate::{set_a, Set};
 
@@ -79,10 +80,15 @@ fn files() -> Vec<TwoFaults> {
     ]
 }
 
-/// The form of X, 7, 8, 9 of S, 9 of X, then 10.
+/// The form of X, 7, 8, 9 of S, 9 of X, 24, 25, then 10.
 fn headers() -> Vec<TwoFaults> {
     let no_projection = |a: Set| a.each(|set, file| set.put(file, header_line(18), 33, "N/A "));
     let no_h20 = |a: Set| a.each(|set, file| set.remove(file, header_line(20)));
+    let again = |a: Set| with(a, &[header_with(690, "G1")]);
+    let unnamed = |a: Set| {
+        let last = a.lines(X);
+        a.edit(X, last, |x| x.instrument("2"))
+    };
     vec![
         both("faults_06_07", [6, 7], set_a, [|a| a.edit(X, first(), |x| x.channels(1, 4)), no_h20]),
         both("faults_07_08", [7, 8], set_a, [no_h20, no_projection]),
@@ -93,12 +99,9 @@ fn headers() -> Vec<TwoFaults> {
             set_a,
             [|a| a.put(S, last_header(), 80, "a"), |a| a.put(X, 1, 5, "a")],
         ),
-        both(
-            "faults_09_10",
-            [9, 10],
-            set_a,
-            [|a| a.put(X, 1, 5, "a"), |a| a.edit(R, below(3), |r| r.point(1))],
-        ),
+        both("faults_09_24", [9, 24], set_a, [|a| a.put(X, 1, 5, "a"), again]),
+        both("faults_24_25", [24, 25], set_a, [again, unnamed]),
+        both("faults_25_10", [25, 10], set_a, [unnamed, |a| a.edit(R, below(3), |r| r.point(1))]),
     ]
 }
 

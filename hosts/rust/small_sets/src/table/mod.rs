@@ -2,6 +2,7 @@
 
 mod answers;
 pub mod backwards;
+pub mod code_tables;
 mod covers;
 pub mod decimals;
 mod files;
@@ -23,7 +24,7 @@ use crate::Case;
 /// A name, and what gives the cases.
 pub type Section = (&'static str, fn() -> Vec<Case>);
 
-pub const SECTIONS: [Section; 16] = [
+pub const SECTIONS: [Section; 17] = [
     ("paper", paper::cases),
     ("files", files::cases),
     ("headers", headers::cases),
@@ -35,6 +36,7 @@ pub const SECTIONS: [Section; 16] = [
     ("records", records::cases),
     ("covers", covers::cases),
     ("backwards", backwards::cases),
+    ("code_tables", code_tables::cases),
     ("questions", questions::cases),
     ("pairs_of_form", pairs_of_form::cases),
     ("pairs_of_set", pairs_of_set::cases),

@@ -60,6 +60,15 @@ pub fn spread_of(
     Question::Spread { tape: tape.as_ref().to_vec(), record, lines_len, components_len }
 }
 
+/// The header line of a code by the letter of its kind.
+pub fn table_line(kind: char, code: &str) -> Question {
+    table_line_of(kind.into(), code)
+}
+
+pub fn table_line_of(kind: u64, code: impl AsRef<[u8]>) -> Question {
+    Question::TableLine { kind, code: code.as_ref().to_vec() }
+}
+
 pub fn accepted(receivers: u64, shots: u64, relations: u64, traces: u64) -> Answer {
     Answer::Accepted { receivers, shots, relations, traces }
 }

@@ -7,6 +7,9 @@
 //! which the readers differ is kept below cargo's directory for tests.
 
 mod answers;
+#[allow(dead_code)]
+#[path = "../../src/archive.rs"]
+mod archive;
 #[path = "../questions/compare.rs"]
 mod compare;
 #[path = "../common/difference.rs"]

@@ -1,17 +1,19 @@
 //! The ways to put a question to a set. The answers have the table's form; a refused
 //! spread table is held to leave its slices as they are.
 
+use crate::archive::{self, Files};
 use crate::lent::{lent, stay};
 use crate::wrapped::wrapped;
 use small_sets::{Answer, Question, Set, STAYS};
-use sps::{Accepted, Record, Refusal, Trace};
+use sps::{Accepted, Kind, Record, Refusal, Trace};
 
 /// What stands in each line's place before the question.
 const LINE_STAYS: u16 = u16::from_le_bytes([STAYS; 2]);
 
 /// The answers of each of the proved calls for a question, with how it is called.
 pub fn proved(set: &Set, question: &Question) -> Vec<(&'static str, Answer)> {
-    let set = wrapped(set);
+    let files = set;
+    let set = wrapped(files);
     match question {
         Question::Check => vec![("check", told(set.check(), accepted))],
         Question::Trace { tape, record, channel } => {
@@ -29,7 +31,34 @@ pub fn proved(set: &Set, question: &Question) -> Vec<(&'static str, Answer)> {
                 ("an odd number of bytes", spread_bytes(record, 2 * lines_len + 1, components_len)),
             ]
         }
+        Question::TableLine { kind, code } => table_line(files, *kind, code),
     }
+}
+
+/// The call takes any kind, the wrapper those that have a name.
+fn table_line(set: &Set, kind: u64, code: &[u8]) -> Vec<(&'static str, Answer)> {
+    let Set { medium, r, s, x } = set;
+    let files = Files { medium: *medium as u64, r, s, x };
+    let named = match u8::try_from(kind) {
+        Ok(b'R') => Some(Kind::Receiver),
+        Ok(b'S') => Some(Kind::Source),
+        Ok(b'X') => Some(Kind::Instrument),
+        _ => None,
+    };
+    let line =
+        |line: Option<u64>| line.map_or(Answer::NotNamed, |line| Answer::TableLine(small(line)));
+    let by_name = named.map(|kind| ("table_line", told(wrapped(set).table_line(kind, code), line)));
+    let packed = archive::table_line(files, kind, code);
+    let answer = match packed >> 40 {
+        0 => line(Some(packed).filter(|line| *line > 0)),
+        number => Answer::Refused {
+            number: small(number),
+            file: small(packed >> 32 & 0xFF),
+            line: small(packed >> 8 & 0xFF_FFFF),
+            column: small(packed & 0xFF),
+        },
+    };
+    by_name.into_iter().chain([("sps_table_line", answer)]).collect()
 }
 
 fn told<T>(answer: Result<T, Refusal>, show: impl FnOnce(T) -> Answer) -> Answer {

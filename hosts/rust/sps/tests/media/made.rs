@@ -3,7 +3,7 @@
 use crate::stated::hold;
 use many_sets::faults::damage;
 use many_sets::media::plain;
-use many_sets::questions::{channel, spread, trace, Ask};
+use many_sets::questions::{channel, spread, table_line, trace, Ask};
 use many_sets::run::{random, turns};
 use small_sets::{Answer, Question, Set};
 use std::collections::BTreeMap;
@@ -41,7 +41,7 @@ fn sets() {
             count(&mut tally, &answer);
         }
     }
-    holds(&tally, [0, 1, 4, 5, 6, 7, 9, 10, 11, 12, 13, 15, 16, 18, 19], 10);
+    holds(&tally, [0, 1, 4, 5, 6, 7, 9, 10, 11, 12, 13, 15, 16, 18, 19, 24, 25], 10);
     holds(&tally, [0, 10], 500);
 }
 
@@ -72,4 +72,9 @@ fn channels() {
 #[test]
 fn spreads() {
     asked(73, spread);
+}
+
+#[test]
+fn table_lines() {
+    asked(75, table_line);
 }

@@ -13,8 +13,8 @@ const OUT_OF_RANGE: u64 = 20 << 40;
 
 const STAYS: u8 = 0xAA;
 
-/// The answers of the five calls; what is lent stays.
-fn answers(files: Files, tape: &[u8], numbers: [u64; 4]) -> [u64; 5] {
+/// The answers of the six calls; what is lent stays.
+fn answers(files: Files, tape: &[u8], numbers: [u64; 4]) -> [u64; 6] {
     let [record, channel, r_line, component] = numbers;
     let (counts, bytes) = lent(STAYS, 40, |bytes| archive::counts(files, bytes));
     let ((spread, components), lines) = lent(STAYS, 9, |lines| {
@@ -25,7 +25,8 @@ fn answers(files: Files, tape: &[u8], numbers: [u64; 4]) -> [u64; 5] {
     }
     let trace = archive::trace(files, tape, record, channel);
     let back = archive::channel(files, tape, record, r_line, component);
-    [archive::check(files), counts, trace, back, spread]
+    let line = archive::table_line(files, b'R'.into(), &tape[..tape.len().min(2)]);
+    [archive::check(files), counts, trace, back, spread, line]
 }
 
 /// Of sound sets and of bad ones, with questions in range and out of it.
@@ -43,7 +44,7 @@ fn another_medium() {
                 (b"100", [11, 2, line, 1]),
                 (b"100   ", [u64::MAX, 0, 0, 0]),
             ] {
-                assert_eq!(answers(files, tape, numbers), [OUT_OF_RANGE; 5], "medium {medium}");
+                assert_eq!(answers(files, tape, numbers), [OUT_OF_RANGE; 6], "medium {medium}");
                 assert!(naive::medium(medium).is_err_and(|refusal| refusal.number == 20));
             }
         }

@@ -26,7 +26,7 @@ fn stated(set: &Set, question: &Question) -> Answer {
     if let Some(file) = full(set).filter(|&file| !refused_before(&disc, file)) {
         return Answer::Refused { number: 2, file: file as u8, line: 10_000, column: 0 };
     }
-    if (1..=9).contains(&number) {
+    if matches!(number, 1..=9 | 24 | 25) {
         return disc;
     }
     if let Some(line) = not_above(Medium::Tape, set) {

@@ -4,12 +4,12 @@ use crate::compare::compare;
 use crate::tally::Kind::{Found, OfTheSet};
 use crate::tally::Tally;
 use many_sets::large::{most, survey, two_million_traces, FULL, HOSTILE};
-use many_sets::questions::{channel, spread, trace, Ask};
+use many_sets::questions::{channel, spread, table_line, trace, Ask};
 use many_sets::run::{random, turns};
 use small_sets::place::{below, first};
 use small_sets::Question;
 
-const KINDS: [Ask; 3] = [trace, channel, spread];
+const KINDS: [Ask; 4] = [trace, channel, spread, table_line];
 
 /// Large sets, and those made to take long, are no different. These get a question
 /// each, of a kind in turn.

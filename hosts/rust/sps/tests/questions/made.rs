@@ -4,7 +4,7 @@ use crate::compare::compare;
 use crate::tally::Kind::{Found, Nothing, OfTheSet, OutOfRange, TooShort};
 use crate::tally::Tally;
 use many_sets::faults::damage;
-use many_sets::questions::{channel, spread, trace, Ask};
+use many_sets::questions::{channel, spread, table_line, trace, Ask};
 use many_sets::run::{random, turns};
 use many_sets::sound::{sound, Sound};
 use small_sets::{Random, Set};
@@ -68,4 +68,15 @@ fn spreads_of_sound_sets() {
 fn spreads_of_damaged_sets() {
     let least = [(Found, 500), (Nothing, 500), (OutOfRange, 500), (TooShort, 500)];
     asked(45, 1, spread).holds(&least);
+}
+
+#[test]
+fn table_lines_of_sound_sets() {
+    asked(50, 0, table_line).holds(&[(Found, 5_000), (Nothing, 1_000), (OutOfRange, 1_000)]);
+}
+
+#[test]
+fn table_lines_of_damaged_sets() {
+    let least = [(Found, 500), (Nothing, 200), (OutOfRange, 500), (OfTheSet, 5_000)];
+    asked(51, 1, table_line).holds(&least);
 }

@@ -6,7 +6,7 @@ use small_sets::Answer;
 pub enum Kind {
     Found,
     Nothing,
-    /// 1 to 19.
+    /// 1 to 19, 24 and 25.
     OfTheSet,
     /// 20.
     OutOfRange,
@@ -17,7 +17,7 @@ pub enum Kind {
 impl Kind {
     fn of(answer: &Answer) -> Kind {
         match answer {
-            Answer::NoTrace | Answer::Spread { highest: 0, .. } => Kind::Nothing,
+            Answer::NoTrace | Answer::NotNamed | Answer::Spread { highest: 0, .. } => Kind::Nothing,
             Answer::Refused { number: 20, .. } => Kind::OutOfRange,
             Answer::Refused { number: 21, .. } => Kind::TooShort,
             Answer::Refused { .. } => Kind::OfTheSet,

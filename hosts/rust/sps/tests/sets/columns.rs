@@ -43,6 +43,6 @@ fn each_column() {
             }
         }
     }
-    tally.holds([3, 4, 5, 6, 9, 10, 13, 18], 20);
+    tally.holds([3, 4, 5, 6, 9, 10, 13, 18, 25], 20);
     assert!(tally.sets() > 100_000, "{} sets", tally.sets());
 }

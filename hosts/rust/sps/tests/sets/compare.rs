@@ -28,7 +28,7 @@ pub fn compare_calls(set: &Set, how: &str) -> Answer {
 
 /// How many sets are accepted, and refused for each number.
 #[derive(Default)]
-pub struct Tally([u64; 20]);
+pub struct Tally([u64; 30]);
 
 impl Tally {
     pub fn count(&mut self, answer: Answer) {

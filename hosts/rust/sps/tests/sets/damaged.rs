@@ -37,7 +37,7 @@ fn changed(salt: u64, sets: u64, changes: usize) {
             tally.count(compare(&set, &ways.join(", then ")));
         }
     }
-    tally.holds(1..=19, 20);
+    tally.holds((1..=19).chain([24, 25]), 20);
 }
 
 #[test]

@@ -31,7 +31,7 @@ fn changed(salt: u64, sets: &[Large], times: &[u64]) -> Tally {
 }
 
 /// The refusals that each run of some thousand sets has.
-const OFTEN: [usize; 15] = [1, 3, 4, 5, 6, 7, 9, 10, 11, 12, 13, 14, 16, 18, 19];
+const OFTEN: [usize; 17] = [1, 3, 4, 5, 6, 7, 9, 10, 11, 12, 13, 14, 16, 18, 19, 24, 25];
 
 /// Two halves, since tests run at the same time.
 #[test]

@@ -3,17 +3,17 @@
 use crate::twins::{hold, twins};
 use many_sets::faults::damage;
 use many_sets::media::plain;
-use many_sets::questions::{channel, spread, trace, Ask};
+use many_sets::questions::{channel, spread, table_line, trace, Ask};
 use many_sets::run::{random, turns};
 use many_sets::sound::{sound, Sound};
 use many_sets::spellings::spelt;
 use small_sets::{Answer, Question, Random, Set};
 use std::collections::BTreeMap;
 
-const KINDS: [Ask; 3] = [trace, channel, spread];
+const KINDS: [Ask; 4] = [trace, channel, spread, table_line];
 
 /// A question of each kind.
-fn asked(random: &mut Random, set: &Set) -> [Question; 3] {
+fn asked(random: &mut Random, set: &Set) -> [Question; 4] {
     KINDS.map(|ask| ask(random, set))
 }
 
@@ -72,7 +72,7 @@ fn damaged_sets() {
         hold(&sets, &Question::Check, how)
     });
     let tally = tally(answers);
-    for number in [0, 1, 3, 4, 5, 6, 7, 9, 10, 11, 12, 13, 15, 16, 18, 19] {
+    for number in [0, 1, 3, 4, 5, 6, 7, 9, 10, 11, 12, 13, 15, 16, 18, 19, 24, 25] {
         assert!(tally.get(&number) > Some(&10), "too few of {number}: {tally:?}");
     }
 }

@@ -5,6 +5,9 @@
 //! `PROBE_SEED` gives another seed, and `PROBE_TIMES` so many times the sets. A set on
 //! which the readers differ is kept below cargo's directory for tests.
 
+#[allow(dead_code)]
+#[path = "../../src/archive.rs"]
+mod archive;
 #[path = "../questions/compare.rs"]
 mod compare;
 #[path = "../common/difference.rs"]

@@ -6,6 +6,7 @@ mod program;
 mod codes;
 mod large;
 mod reasons;
+mod tables;
 mod tapes;
 mod unreadable;
 

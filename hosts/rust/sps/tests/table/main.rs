@@ -1,6 +1,9 @@
 //! The one table through every entry: the naive reader, the proved calls, and the
 //! programs, which have its cases of the set check.
 
+#[allow(dead_code)]
+#[path = "../../src/archive.rs"]
+mod archive;
 #[path = "../common/difference.rs"]
 mod difference;
 #[path = "../common/entries.rs"]

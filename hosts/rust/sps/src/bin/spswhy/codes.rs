@@ -24,3 +24,10 @@ pub fn rows(file: File) -> String {
     let of = FAMILIES.iter().filter(|(_, _, files)| files.contains(&file));
     of.map(|(codes, what, _)| format!("{codes}  {what}\n")).collect()
 }
+
+/// Whether a code of a file is one with a digit.
+pub fn is_numbered(file: File, code: &str) -> bool {
+    let [letter, b'1'..=b'9'] = code.as_bytes() else { return false };
+    let mut families = FAMILIES.iter().filter(|(_, _, files)| files.contains(&file));
+    families.any(|(codes, _, _)| codes.ends_with('9') && codes.as_bytes()[0] == *letter)
+}

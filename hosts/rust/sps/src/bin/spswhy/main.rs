@@ -3,8 +3,8 @@
 //!
 //! All it knows of sets is what the proved check says. `files` reads the three files,
 //! `reason` puts a refusal into words, `fields` names the field that a column starts,
-//! `codes` has the families of codes, `text` the characters of a line, `looks` what a file
-//! looks like.
+//! `codes` has the families of codes, `tables` what the header names, `text` the characters
+//! of a line, `looks` what a file looks like.
 
 #![forbid(unsafe_code)]
 
@@ -13,6 +13,7 @@ mod fields;
 mod files;
 mod looks;
 mod reason;
+mod tables;
 mod text;
 
 use files::Named;

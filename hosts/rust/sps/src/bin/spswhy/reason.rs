@@ -3,6 +3,7 @@
 use crate::codes;
 use crate::fields::{field, Field, CODE};
 use crate::files::{width, Named};
+use crate::tables;
 use crate::text::shown;
 use sps::{File, Medium, Number, Refusal};
 
@@ -24,7 +25,14 @@ pub fn of(medium: Medium, refusal: &Refusal, names: &[Named; 3], files: &[Vec<u8
     let line = match (column as usize, text_of(medium, &files[file as usize], line)) {
         (0, _) => "no line is shown: the breach is of no column\n".to_owned(),
         (_, None) => "no line is shown: it is beyond the end of the file\n".to_owned(),
-        (column, Some(line)) => rule(number, file, &line, column) + &marked(&line, column),
+        (column, Some(text)) => {
+            let told = match number {
+                Number::CodeNamedTwice => tables::earlier(medium, &files[0], line),
+                Number::CodeNotNamed => tables::rows(medium, &files[0], file),
+                _ => rule(number, file, &text, column),
+            };
+            told + &marked(&text, column)
+        }
     };
     place + &reason + &line
 }

@@ -1,0 +1,138 @@
+//! Code tables: which codes the header names, and which line names a code before.
+
+use crate::of;
+use small_sets::place::{below, first, header_line};
+use small_sets::{header_with, set_a, File, Set};
+
+/// Set A with lines put in below its header in all files.
+fn with(lines: &[small_sets::Line]) -> Set {
+    set_a().each(|set, file| {
+        lines.iter().rev().fold(set, |set, &line| set.insert(file, first(), line))
+    })
+}
+
+/// Set A with other tables, and lines that name nothing.
+fn tables() -> Set {
+    with(&[
+        header_with(690, "H2"),
+        header_with(601, "G3"),
+        header_with(880, "S9"),
+        header_with(600, "V2"),
+        header_with(700, "PM"),
+        header_with(560, "7"),
+        header_with(420, "G1"),
+    ])
+}
+
+fn tape(set: &Set) -> Set {
+    set.on_tape().expect("characters of a tape")
+}
+
+const NOT_NAMED: &str =
+    "refused with 25: no first record of a code table in the header of R names \
+this code: H600, H610 to H690 name receivers, H700, H720 to H880 sources, H400, H420 to H560 \
+instruments\n";
+
+const TWICE: &str =
+    "refused with 24: the first record of a code table names a code, in columns 33 \
+and 34, that the first record of an earlier one names\n";
+
+/// Holds what is said of a set, on disc and on tape.
+fn hold(name: &str, set: &Set, verdict: &str, reason: &str) {
+    for (name, set) in [(name.to_owned(), set.clone()), (format!("{name}_tape"), tape(set))] {
+        let expected = (Some(1), format!("{verdict}\n"), reason.to_owned());
+        assert_eq!(of(&name, &set), expected, "{name}");
+    }
+}
+
+/// Seven lines stand between set A's header and its own lines.
+#[test]
+fn a_receiver() {
+    let line = below(2) + 7;
+    let reason = format!(
+        "set.r01, line {line}, column 27\n{NOT_NAMED}\
+         the header names these receiver codes:\nG1  line {}, H600\nH2  line {}, H690\n\
+         RL1                   1021G2     0.0   0            0.0       0.0   0.0113071245\n\
+         {:>27}\n",
+        header_line(600),
+        first(),
+        '^'
+    );
+    let set = tables().put(File::R, line, 27, "G2");
+    hold("unnamed_receiver", &set, &format!("REFUSED 25 R {line} 27"), &reason);
+}
+
+#[test]
+fn a_source() {
+    let line = first() + 7;
+    let reason = format!(
+        "set.s01, line {line}, column 27\n{NOT_NAMED}\
+         the header names these source codes:\nV1  line {}, H700\nS9  line {}, H880\n\
+         SL1                   5011V2     0.0   0            0.0       0.0   0.0113071245\n\
+         {:>27}\n",
+        header_line(700),
+        first() + 2,
+        '^'
+    );
+    let set = tables().put(File::S, line, 27, "V2");
+    hold("unnamed_source", &set, &format!("REFUSED 25 S {line} 27"), &reason);
+}
+
+#[test]
+fn an_instrument() {
+    let line = first() + 7;
+    let reason = format!(
+        "set.x01, line {line}, column 13\n{NOT_NAMED}\
+         the header names these instruments:\n1  line {}, H400\n7  line {}, H560\n\
+         X100     1112L1                   5011   1   31L1                   101     1031\n\
+         {:>13}\n",
+        header_line(400),
+        first() + 5,
+        '^'
+    );
+    let set = tables().put(File::X, line, 13, "2");
+    hold("unnamed_instrument", &set, &format!("REFUSED 25 X {line} 13"), &reason);
+}
+
+/// No table is left of a kind; a line less stands above.
+#[test]
+fn none_named() {
+    for (number, file, column, what) in [
+        (600, 'R', 27, "receiver codes"),
+        (700, 'S', 27, "source codes"),
+        (400, 'X', 13, "instruments"),
+    ] {
+        let set = set_a().each(|set, file| set.remove(file, header_line(number)));
+        let (_, verdict, reason) = of("none_named", &set);
+        assert_eq!(verdict, format!("REFUSED 25 {file} {} {column}\n", first() - 1));
+        assert!(reason.contains(&format!("\nthe header names no {what}\n")), "{reason}");
+    }
+}
+
+#[test]
+fn named_before() {
+    for (number, code, own) in [(690, "G1", 600), (700, "V1", 700), (420, "1", 400)] {
+        let line = header_with(number, code).at(5, "again");
+        let text = String::from_utf8_lossy(&line.0).into_owned();
+        let reason = format!(
+            "set.r01, line {}, column 33\n{TWICE}line {}, H{own}, names {code} before it\n\
+             {text}\n{:>33}\n",
+            first(),
+            header_line(own),
+            '^'
+        );
+        let verdict = format!("REFUSED 24 R {} 33", first());
+        hold(&format!("named_before_{number}"), &with(&[line]), &verdict, &reason);
+    }
+}
+
+/// Of three the first is told, and lines that name nothing are passed over.
+#[test]
+fn the_first_of_some() {
+    let lines = [(601, "G2"), (610, "G2"), (700, "G2"), (620, "G2"), (630, "G2")];
+    let (_, verdict, reason) =
+        of("first_of_some", &with(&lines.map(|(number, code)| header_with(number, code))));
+    assert_eq!(verdict, format!("REFUSED 24 R {} 33\n", first() + 3));
+    let told = format!("\nline {}, H610, names G2 before it\n", first() + 1);
+    assert!(reason.contains(&told), "{reason}");
+}
