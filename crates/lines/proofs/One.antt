@@ -30,8 +30,10 @@ use Rattle.lines.proofs.line_of as line-of
 use Rattle.lines.proofs.line_of.Reads as line-of-reads
 use Rattle.lines.proofs.own_of as own-of
 use Rattle.lines.proofs.own_of.Reads as own-of-reads
-use Rattle.lines.proofs.page.char_of as char-of
-use Rattle.lines.proofs.page.char_of.Reads as char-of-reads
+use Rattle.lines.proofs.char_of as char-of
+use Rattle.lines.proofs.char_of.Reads as char-of-reads
+use Rattle.lines.proofs.page.char_of as page-char-of
+use Rattle.lines.proofs.page.char_of.Reads as page-char-of-reads
 use Rattle.lines.proofs.page.translated as translated
 use Rattle.lines.proofs.page.translated.Reads as translated-reads
 use Rattle.lines.proofs.proper.byte_fits as byte-fits
@@ -102,6 +104,9 @@ own-of-one κs a v v′ w w′ = alike
 
 pub char-of-one : One char-of.ended char-of-reads.Post
 char-of-one κs a v v′ w w′ = alike
+
+pub page-char-of-one : One page-char-of.ended page-char-of-reads.Post
+page-char-of-one κs a v v′ w w′ = alike
 
 pub translated-one : One translated.ended translated-reads.Post
 translated-one κs a v v′ w w′ = alike

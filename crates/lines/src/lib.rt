@@ -221,6 +221,17 @@ pub fn is_letter(how: Reading, b: u8, c: u8) -> bool
     }
 }
 
+// The character of a byte of the medium's own.
+pub fn char_of(how: Reading, b: u8) -> u8
+    ensures value { λ c. ⌜ c ≡ mediumOf how .charOf b ⌝ }
+{
+    let m = how.medium;
+    match m {
+        Medium::Disc => b,
+        Medium::Tape => page::char_of(b),
+    }
+}
+
 // Line k has no byte outside its range.
 fn is_clean(how: Reading, f: &[u8], k: usize) -> bool
     requires { ⌜ k < sheetOf how (now f) .count ⌝ }

@@ -104,7 +104,7 @@ one-of-is (_∷ₛ_ c s) b =
       λ w. u .1 (⊎-elim (λ t. inl (eq-eqb b _ t)) (λ t. inr (one-of-is s b .1 t)) w),
     )
 
-family-is : (i b : ℕ) → (family i b ≡ true) ↔ Family i b
+pub family-is : (i b : ℕ) → (family i b ≡ true) ↔ Family i b
 unfolding family
 family-is i b = simp (pick-is, one-of-is, says) Iff·rfl
 

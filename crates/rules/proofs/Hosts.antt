@@ -18,9 +18,10 @@ use Rattle.rules.specs.Medium.{Medium, sheet}
 use Rattle.rules.specs.Lines.{isData}
 use Rattle.rules.specs.Relations.{reachAt}
 use Rattle.rules.specs.Cover.{traces}
-use Rattle.rules.specs.Check.{Answer, accepted, refusal, trace, channel, highest, noTrace, allTraces, rules, verdict, answer, check}
+use Rattle.rules.specs.Check.{Answer, accepted, refusal, trace, channel, highest, headerLine, noTrace, allTraces, rules, verdict, answer, check}
 use Rattle.rules.specs.Questions.{rule20}
 use Rattle.rules.specs.Lookup.{lookup, wayBack}
+use Rattle.rules.specs.Tables.{tableLine}
 use Rattle.rules.specs.Spread.{rule21, spreadVerdict, spread}
 use Rattle.rules.specs.Hosts.{packed, hostNumber}
 use Rattle.rules.specs.Meets.{Meets}
@@ -31,6 +32,7 @@ use Rattle.rules.proofs.Accepted.{sound}
 use Rattle.rules.proofs.Traces.{found-view, back-view, traced-range, back-range}
 use Rattle.rules.proofs.Demand3.{asked-then}
 use Rattle.rules.proofs.Spreads.{few}
+use Rattle.rules.proofs.Tables.{naming-few}
 use Rattle.rules.proofs.Medium.{Lawful}
 use Rattle.rules.proofs.Listed.{Only, run-only, rules-listed, asked-listed, room-listed}
 use Rattle.rules.proofs.ListedSizes.{listed-within}
@@ -41,6 +43,7 @@ Sized (refusal w) = Listed w
 Sized (trace l m) = (l ≤ 9999) × ((1 ≤ m) × (m ≤ 9))
 Sized (channel c) = (1 ≤ c) × (c ≤ 9999)
 Sized (highest c) = c ≤ 9999
+Sized (headerLine l) = l ≤ 9999
 Sized noTrace = Unit {0}
 
 pub refusal-parts : (n f l c : ℕ) → Listed (№ n f l c)
@@ -77,6 +80,7 @@ tells (trace l m) z =
     below (trace l m) (omega arith) (λ w e. let y : _≡_ {A = ℕ} 0 1 = cc in omega arith)
 tells (channel c) z = let p = z .1 in below (channel c) (omega arith) (λ w e. let y : _≡_ {A = ℕ} 0 1 = cc in omega arith)
 tells (highest c) z = below (highest c) (omega arith) (λ w e. let y : _≡_ {A = ℕ} 0 1 = cc in omega arith)
+tells (headerLine l) z = below (headerLine l) (omega arith) (λ w e. let y : _≡_ {A = ℕ} 0 1 = cc in omega arith)
 tells noTrace z = below noTrace (omega arith) (λ w e. let y : _≡_ {A = ℕ} 0 1 = cc in omega arith)
 
 -- a plan, and what is answered where it refuses nothing
@@ -163,3 +167,7 @@ module _ (M : Medium) (g : Lawful M) where
           answer-sized _ _
           ((λ _. asked-listed), λ _. (rules-listed M g r s x, λ _ _. room-listed))
           (λ e. few (file r) (file s) (file x) t n a b e)
+
+    pub table-sized : (b : ℕ) (c : List ℕ) → Sized (tableLine (file r) (file s) (file x) b c)
+    unfolding tableLine mostLines
+    table-sized b c = question-sized _ _ (λ ok. naming-few (file r) _ _ (ok .formR .rule2))

@@ -12,6 +12,7 @@ pub mod Form
 pub mod Raw
 pub mod Projection
 pub mod Headers
+pub mod Codes
 pub mod Cover
 pub mod Above
 pub mod Order
@@ -29,6 +30,7 @@ pub mod Tape
 pub mod Counts
 pub mod Turns
 pub mod Spreads
+pub mod Tables
 pub mod ListedSizes
 pub mod Listed
 pub mod Hosts

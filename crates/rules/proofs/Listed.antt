@@ -19,6 +19,7 @@ use Rattle.rules.specs.Lines.{isHeader, heads as headCount}
 use Rattle.rules.specs.Rows.{Row, headerRows, pointRows, relationRows}
 use Rattle.rules.specs.Form.{strayFrom, stray, ending, rule1, rule2, rule29, rule3, rule4, fieldsFit, rule5, rule6, lineFits, form}
 use Rattle.rules.specs.Headers.{rule7, rule8, sameColumns, rule9}
+use Rattle.rules.specs.Codes.{rule24, rule25, codesFit}
 use Rattle.rules.specs.Order.{rule10, rule11, rule12, rule13, rule14, rule15, rule16, rule17, rule18, rule19}
 use Rattle.rules.specs.Check.{relationFits, rules}
 use Rattle.rules.specs.Listed.{Entry, row, begins, published, oneOfFiles, inSpan, inSpans, standsIn, isListed, Listed}
@@ -146,7 +147,7 @@ module _ (M : Medium) (g : Lawful M) where
         (λ _. listed-at i (9999 + 1) 0 1 own (omega arith) (omega arith) refl),
         λ m.
             let n = leb-is (allLines (file f)) 9999 .0 m in (
-              (λ _. listed-at i (min (ending (file f) + 2) (allLines (file f) + 1)) 0 22 own (omega arith) (omega arith) refl),
+              (λ _. listed-at i (min (ending (file f) + 2) (allLines (file f) + 1)) 0 25 own (omega arith) (omega arith) refl),
               λ _ k o. line-listed k (omega arith) f,
             ),
       ),
@@ -214,6 +215,22 @@ module _ (M : Medium) (g : Lawful M) where
     relations-listed =
         form-listed fileX (entry published 5 .columns) refl (λ l c a b d. listed-at fileX l c 5 refl a b d) refl (λ n. absurd (n refl)) (λ _. refl) f
 
+  -- the code tables
+  codes-listed : (r s x : List ℕ) → file r .count ≤ 9999 → file s .count ≤ 9999 → file x .count ≤ 9999
+      → Only Listed (codesFit (file r) (file s) (file x))
+  unfolding codesFit rule24 rule25 pick sheet sps93 published oneOfFiles inSpans inSpan
+  codes-listed r s x a b c =
+      let d = heads-few (file r) in (
+        (λ k o _. listed-at 1 (k + 1) 33 22 refl (omega arith) (omega arith) refl),
+        λ _. (
+          (λ k o _ _. listed-at 1 (k + 1) 27 23 refl (omega arith) (omega arith) refl),
+          λ _. (
+            (λ k o _ _. listed-at 2 (k + 1) 27 23 refl (omega arith) (omega arith) refl),
+            λ _ k o _ _. listed-at 3 (k + 1) 13 24 refl (omega arith) (omega arith) refl,
+          ),
+        ),
+      )
+
   pub rules-listed : (r s x : List ℕ) → Only Listed (rules (file r) (file s) (file x))
   unfolding rules rule7 rule8 rule10 rule11 rule12 rule15 sheet sps93 published oneOfFiles inSpans inSpan
   rules-listed r s x = (
@@ -235,15 +252,18 @@ module _ (M : Medium) (g : Lawful M) where
                   λ _. (
                     rule9-listed 3 refl r x a,
                     λ _. (
-                      (λ k o _ _. listed-at 1 (k + 1) 2 10 refl (omega arith) (omega arith) refl),
+                      codes-listed r s x a b c,
                       λ _. (
-                        (λ k o. (
-                          (λ _ _. listed-at 2 (k + 1) 72 11 refl (omega arith) (omega arith) refl),
-                          λ _ _ _. listed-at 2 (k + 1) 2 12 refl (omega arith) (omega arith) refl,
-                        )),
+                        (λ k o _ _. listed-at 1 (k + 1) 2 10 refl (omega arith) (omega arith) refl),
                         λ _. (
-                          (λ k o. relation-listed r s x k (omega arith)),
-                          λ _ k o _ _. listed-at 2 (k + 1) 1 15 refl (omega arith) (omega arith) refl,
+                          (λ k o. (
+                            (λ _ _. listed-at 2 (k + 1) 72 11 refl (omega arith) (omega arith) refl),
+                            λ _ _ _. listed-at 2 (k + 1) 2 12 refl (omega arith) (omega arith) refl,
+                          )),
+                          λ _. (
+                            (λ k o. relation-listed r s x k (omega arith)),
+                            λ _ k o _ _. listed-at 2 (k + 1) 1 15 refl (omega arith) (omega arith) refl,
+                          ),
                         ),
                       ),
                     ),

@@ -10,7 +10,7 @@ use Rattle.rules.specs.Form.{form}
 use Rattle.rules.specs.Check.{rules, verdict}
 use Rattle.rules.specs.MeetsForm.{Formed}
 use Rattle.rules.specs.Meets.{Meets}
-use Rattle.rules.specs.Refuses.{Kept, formOrder, shotOrder, relationOrder, order, Refuses}
+use Rattle.rules.specs.Refuses.{Kept, formOrder, codesOrder, shotOrder, relationOrder, order, Refuses}
 use Rattle.rules.proofs.Breach.{Met, run-met, run-broken}
 use Rattle.rules.proofs.Refuses.{form-same, rules-same}
 
@@ -36,7 +36,8 @@ module _ (r s x : Sheet) where
   kept-meets : Kept (order r s x) → Meets r s x
   kept-meets t =
       let headers = t .1 .1 .1 in
-      let points = headers .1 .1 .1 .1 in
+      let codes = headers .1 .1 .1 .1 .0 in
+      let points = headers .1 .1 .1 .1 .1 in
       let shots = points .1 .0 in
       let lines = points .1 .1 .0 in
       record {
@@ -46,6 +47,10 @@ module _ (r s x : Sheet) where
         rule7 = headers .0;
         rule8 = headers .1 .0;
         rule9 = (headers .1 .1 .0, headers .1 .1 .1 .0);
+        rule24 = codes .0;
+        rule25R = codes .1 .0;
+        rule25S = codes .1 .1 .0;
+        rule25X = codes .1 .1 .1;
         rule10 = points .0;
         rule11 = λ k h. shots k h .0;
         rule12 = λ k h. shots k h .1;
@@ -62,13 +67,14 @@ module _ (r s x : Sheet) where
   meets-kept m =
       let line : (k : ℕ) → k < x .count → Kept (relationOrder r s x k) =
       λ k h. (m .rule13 k h, (m .rule14 k h, (m .rule16 k h, (m .rule17 k h, (m .rule18 k h, m .rule19 k h))))) in
+      let codes : Kept (codesOrder r s x) = (m .rule24, (m .rule25R, (m .rule25S, m .rule25X))) in
       let shot : (k : ℕ) → k < s .count → Kept (shotOrder s k) = λ k h. (m .rule11 k h, m .rule12 k h) in (
         form-kept _ r .1 (m .formR),
         (
           form-kept _ s .1 (m .formS),
           (
             form-kept _ x .1 (m .formX),
-            (m .rule7, (m .rule8, (m .rule9 .0, (m .rule9 .1, (m .rule10, (shot, (line, m .rule15))))))),
+            (m .rule7, (m .rule8, (m .rule9 .0, (m .rule9 .1, (codes, (m .rule10, (shot, (line, m .rule15)))))))),
           ),
         ),
       )

@@ -14,12 +14,13 @@ use Rattle.rules.specs.Relations.{Relation, reach, relationAt, reachAt}
 use Rattle.rules.specs.Form.{rule1, rule2, rule6, lineFits, form}
 use Rattle.rules.specs.Headers.{rule8, rule9}
 use Rattle.rules.specs.Order.{lineOfPoint, shotLine, rule10, rule11, rule12, rule13, rule14, rule15, rule16, rule17, rule18, rule19}
+use Rattle.rules.specs.Codes.{codesFit}
 use Rattle.rules.specs.Check.{relationFits, rules}
 use Rattle.rules.specs.MeetsForm.{Data, Relates, Rule6, Breach6}
 use Rattle.rules.specs.MeetsHeaders.{Rule8, Breach8}
 use Rattle.rules.specs.MeetsSet.{Shot, Rule12, Rule13, Rule14, Breach14}
 use Rattle.rules.specs.Refuses.{look, _then_, lineByLine, by, inColumn, lineOrder, formOrder, headerOrder, shotOrder, related}
-use Rattle.rules.specs.Refuses.{relationOrder, order}
+use Rattle.rules.specs.Refuses.{codesOrder, relationOrder, order}
 use Rattle.rules.proofs.Tests.{says, eqb-is, leb-is}
 use Rattle.rules.proofs.Contrary.{contrary, not-leb, fails}
 use Rattle.rules.proofs.Least.{least-first}
@@ -29,6 +30,7 @@ use Rattle.rules.proofs.Raw.{rule3-is, rule3-breaks}
 use Rattle.rules.proofs.Form.{rule4-breaks, rule5-is, rule5-breaks, rule6-is, rule6-breaks}
 use Rattle.rules.proofs.Raw.{rule29-is, rule29-breaks}
 use Rattle.rules.proofs.Headers.{in-header, heads-few, rule7-is, rule7-breaks, rule8-is, rule8-breaks, rule9-is, rule9-breaks}
+use Rattle.rules.proofs.Codes.{tables-same, used-same}
 use Rattle.rules.proofs.Order.{point-at-is, rule10-at, rule10-breaks, rule11-is, rule11-breaks, rule12-is, rule12-breaks, rule13-is, rule13-breaks}
 use Rattle.rules.proofs.Order.{rule15-is, rule15-breaks, rule16-is, rule16-breaks, rule17-is, rule17-breaks, receivers-there, receivers-missing}
 use Rattle.rules.proofs.Order.{once-is, once-breaks, shots-are}
@@ -193,6 +195,11 @@ projections-same r =
     same-fewer (heads r) (r .count) _ _ (heads-few r) (λ k h. same-look (rule8-is r k h) (rule8-breaks r k h))
     (λ k l i. absurd (let h = in-header r k .1 i in omega arith)) (λ k w b. in-header r k .1 (b .0 .0))
 
+codes-same : (r s x : Sheet) → Same (codesFit r s x) (codesOrder r s x)
+unfolding codesFit
+codes-same r s x =
+    same-then (tables-same r) (λ _. same-then (used-same fileR r r) (λ _. same-then (used-same fileS r s) (λ _. used-same fileX r x)))
+
 pub rules-same : (r s x : Sheet) → Same (rules r s x) (order r s x)
 unfolding rules
 rules-same r s x =
@@ -210,12 +217,14 @@ rules-same r s x =
     (λ _.
     same-then (headers-same fileX r x)
     (λ _.
+    same-then (codes-same r s x)
+    (λ _.
     same-then (same-lines (r .count) (rule10 r) _ (λ k _ _. same-look (rule10-at r k) (rule10-breaks r k)))
     (λ _.
     same-then (same-lines (s .count) _ (shotOrder s) (λ k _ _. shot-same k))
     (λ shots.
     same-then (same-lines (x .count) (relationFits r s x) (relationOrder r s x) (λ k _ m. relation-same r s x shots k m))
-    (λ _. same-lines (s .count) (rule15 s x) _ (λ k _ _. same-look (rule15-is s x k) (rule15-breaks s x k))))))))))))
+    (λ _. same-lines (s .count) (rule15 s x) _ (λ k _ _. same-look (rule15-is s x k) (rule15-breaks s x k)))))))))))))
   where
     shot-same : (k : ℕ) → Same (rule11 s k before rule12 s k) (shotOrder s k)
     shot-same k =

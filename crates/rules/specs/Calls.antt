@@ -3,7 +3,7 @@
 --   choice n        = what a number chooses
 --   chosen d a      = what a call answers: 20 where no medium is chosen, else what it answers of the chosen one
 --   Chosen d P Q    = P of the chosen medium, Q where none is chosen
---   checkIn, lookupIn, wayBackIn = the set check, the lookup and the way back of three files
+--   checkIn, lookupIn, wayBackIn, tableLineIn = the set check, the lookup, the way back and the line that names a code, of three files
 use Prim.Native.Nat.{ℕ}
 use mathlib.Core.List.{List}
 use lib.Dec.{eqb}
@@ -15,6 +15,7 @@ use Rattle.rules.specs.Disc.{disc}
 use Rattle.rules.specs.Tape.{tape}
 use Rattle.rules.specs.Check.{Answer, refusal, check}
 use Rattle.rules.specs.Lookup.{lookup, wayBack}
+use Rattle.rules.specs.Tables.{tableLine}
 
 pub data Choice : Type 0 where
   on : Medium → Choice
@@ -39,3 +40,6 @@ lookupIn d r s x t n c = chosen d (λ M. lookup (sheet M sps93 r) (sheet M sps93
 
 abbrev pub wayBackIn : Choice → List ℕ → List ℕ → List ℕ → List ℕ → ℕ → ℕ → ℕ → Answer
 wayBackIn d r s x t n j m = chosen d (λ M. wayBack (sheet M sps93 r) (sheet M sps93 s) (sheet M sps93 x) t n j m)
+
+abbrev pub tableLineIn : Choice → List ℕ → List ℕ → List ℕ → ℕ → List ℕ → Answer
+tableLineIn d r s x b c = chosen d (λ M. tableLine (sheet M sps93 r) (sheet M sps93 s) (sheet M sps93 x) b c)

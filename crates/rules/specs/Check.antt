@@ -14,6 +14,7 @@ use Rattle.rules.specs.Relations.{reachAt}
 use Rattle.rules.specs.Cover.{traces}
 use Rattle.rules.specs.Form.{form}
 use Rattle.rules.specs.Headers.{rule7, rule8, rule9}
+use Rattle.rules.specs.Codes.{codesFit}
 use Rattle.rules.specs.Order.{rule10, rule11, rule12, rule13, rule14, rule15, rule16, rule17, rule18, rule19}
 
 -- 13, 14, 16, 17, 18, 19 of line k of X
@@ -26,6 +27,7 @@ unfoldable pub rules : Sheet → Sheet → Sheet → Plan
 rules r s x =
     form fileR r before form fileS s before form fileX x
     before rule7 r before upTo (heads r) (rule8 r) before rule9 fileS r s before rule9 fileX r x
+    before codesFit r s x
     before upTo (r .count) (rule10 r)
     before upTo (s .count) (λ k. rule11 s k before rule12 s k)
     before upTo (x .count) (relationFits r s x)
@@ -50,6 +52,7 @@ pub data Answer : Type 0 where
   trace : (line component : ℕ) → Answer
   channel : ℕ → Answer
   highest : ℕ → Answer
+  headerLine : ℕ → Answer
   noTrace : Answer
 
 unfoldable pub answer : Verdict → Answer → Answer

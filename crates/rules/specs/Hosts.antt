@@ -5,7 +5,7 @@
 use Prim.Native.Nat.{ℕ, _+_, _*_, _^_}
 use mathlib.Core.List.{List, [], _∷_}
 use Rattle.rules.specs.Plan.{Refusal, №}
-use Rattle.rules.specs.Check.{Answer, accepted, refusal, trace, channel, highest, noTrace}
+use Rattle.rules.specs.Check.{Answer, accepted, refusal, trace, channel, highest, headerLine, noTrace}
 
 unfoldable pub packed : Refusal → ℕ
 packed (№ n f l c) = n * 2 ^ 40 + f * 2 ^ 32 + l * 256 + c
@@ -16,6 +16,7 @@ hostNumber (refusal w) = packed w
 hostNumber (trace l m) = l * 16 + m
 hostNumber (channel c) = c
 hostNumber (highest c) = c
+hostNumber (headerLine l) = l
 hostNumber noTrace = 0
 
 unfoldable pub numbersOf : List ℕ → List ℕ

@@ -64,13 +64,15 @@ digit1 b = leb (ascii "1") b && leb b (ascii "9")
 unfoldable pub indexOf : ℕ → ℕ
 indexOf b = pick (eqb b 32) 1 (b - 48)
 
--- the letters of a file's code families; PM and KL stand in both files
+-- the letters of a file's code families, and a code of one of them; PM and KL stand in both files
 unfoldable pub family : ℕ → ℕ → Bool
 family i b = pick (eqb i fileR) (oneOf "GHR" b) (oneOf "VEAWS" b)
 
+abbrev pub ofFamily : ℕ → List ℕ → Bool
+ofFamily i bs = family i (col bs 1) && digit1 (col bs 2)
+
 unfoldable pub isCode : ℕ → List ℕ → Bool
-isCode i bs =
-    same bs (bytes "PM") || (same bs (bytes "KL") || (family i (col bs 1) && digit1 (col bs 2)))
+isCode i bs = same bs (bytes "PM") || (same bs (bytes "KL") || ofFamily i bs)
 
 -- water depth in tenths
 unfoldable pub water : List ℕ → Number

@@ -22,10 +22,12 @@ abbrev pub letterColumn : ℕ
 letterColumn = 1
 
 pub record Layout : Type 0 where
-  -- a header line: the two digits of its type, the column after them, its text
+  -- a header line: the two digits of its type, the column after them, all three, its text, the code that starts the text
   pub headerType : Span
   pub headerMore : Span
+  pub headerNumber : Span
   pub headerText : Span
+  pub headerCode : Span
   -- a point line
   pub name : Span
   pub point : Span
@@ -65,7 +67,9 @@ sps93 =
     record {
       headerType = 2 to 3;
       headerMore = 4 to 4;
+      headerNumber = 2 to 4;
       headerText = 33 to 80;
+      headerCode = 33 to 34;
       name = 2 to 17;
       point = 18 to 25;
       index = 26 to 26;

@@ -16,11 +16,13 @@ pub mod Cover
 pub mod Rows
 pub mod Form
 pub mod Headers
+pub mod Codes
 pub mod Reaches
 pub mod Order
 pub mod Check
 pub mod Questions
 pub mod Lookup
+pub mod Tables
 pub mod Spread
 pub mod Calls
 pub mod Show
@@ -31,6 +33,7 @@ pub mod MeetsForm
 pub mod MeetsDisc
 pub mod MeetsTape
 pub mod MeetsHeaders
+pub mod MeetsCodes
 pub mod MeetsCover
 pub mod MeetsSet
 pub mod Meets

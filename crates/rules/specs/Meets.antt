@@ -1,4 +1,4 @@
--- "A set is accepted exactly when it meets the SPS text": a field for each refusal 1 to 19, in words; those of 1 to 6 stand in `Formed`, for
+-- "A set is accepted exactly when it meets the SPS text": a field for each refusal 1 to 19, 24 and 25, in words; those of 1 to 6 stand in `Formed`, for
 -- each file. And the counts of a set that does.
 --   Relations x P     = P of each relation line
 --   Meets r s x       = the set meets every rule
@@ -16,6 +16,7 @@ use Rattle.rules.specs.Relations.{reachAt}
 use Rattle.rules.specs.Cover.{traces}
 use Rattle.rules.specs.MeetsForm.{Data, Point, Formed}
 use Rattle.rules.specs.MeetsHeaders.{Rule7, Rule8, Rule9}
+use Rattle.rules.specs.MeetsCodes.{Rule24, Rule25}
 use Rattle.rules.specs.MeetsSet.{Rule10, Rule11, Rule12, Rule13, Rule14, Rule15, Rule16, Rule17, Rule18, Rule19}
 
 abbrev pub Relations : Sheet → (ℕ → Type 0) → Type 0
@@ -28,6 +29,10 @@ pub record Meets (r s x : Sheet) : Type 0 where
   pub rule7 : Rule7 r
   pub rule8 : (k : ℕ) → k < r .count → Rule8 r k
   pub rule9 : Rule9 r s × Rule9 r x
+  pub rule24 : (k : ℕ) → k < r .count → Rule24 r k
+  pub rule25R : (k : ℕ) → k < r .count → Rule25 fileR r r k
+  pub rule25S : (k : ℕ) → k < s .count → Rule25 fileS r s k
+  pub rule25X : (k : ℕ) → k < x .count → Rule25 fileX r x k
   pub rule10 : (k : ℕ) → k < r .count → Rule10 r k
   pub rule11 : (k : ℕ) → k < s .count → Rule11 s k
   pub rule12 : (k : ℕ) → k < s .count → Rule12 s k

@@ -10,19 +10,26 @@
 --   Absent x t n              = no relation line is of that tape and record
 --   Highest x t n h           = h is the record's highest covered channel; 0 where the record is absent
 --   Room, Short               = both spread slices, of a and b places, have a place for each channel up to it; one has not
---   lookupOrder, wayBackOrder, spreadOrder = "20 comes before 1 to 19, and 21 after them"
+--   KindLetter b i            = the letter of a kind of codes
+--   AskedCode b c             = a kind, and a code of it: two bytes, of an instrument one
+--   NamedIn r i c l           = line l of R names the code; l is 0 where none does
+--   lookupOrder, wayBackOrder, spreadOrder, tableOrder = "20 comes before 1 to 19, and 21 after them"
 use Prim.Native.Nat.{ℕ, _+_, _-_, _≤_, _<_}
+use Prim.Native.Char.{code as ascii}
 use mathlib.Core.Path.{_≡_}
 use mathlib.Core.Logic.{_⊎_}
 use mathlib.Core.List.{List}
 use lib.ListN.{length, getD}
-use Rattle.rules.specs.Plan.{№}
+use Rattle.rules.specs.Plan.{№, fileR, fileS, fileX}
 use Rattle.rules.specs.Text.{col}
 use Rattle.rules.specs.Layout.{Layout}
 use Rattle.rules.specs.Sheet.{Sheet, mostLines}
 use Rattle.rules.specs.Points.{Point as PointValues, pointAt}
 use Rattle.rules.specs.Relations.{Reach, reachAt}
+use Rattle.rules.specs.Tables.{written}
 use Rattle.rules.specs.MeetsForm.{Data, Point}
+use Rattle.rules.specs.MeetsHeaders.{InHeader}
+use Rattle.rules.specs.MeetsCodes.{CodeOf, NamesCode, Named}
 use Rattle.rules.specs.MeetsDisc.{Printable}
 use Rattle.rules.specs.MeetsCover.{Carries, Reached}
 use Rattle.rules.specs.MeetsSet.{OfRecord}
@@ -82,6 +89,17 @@ Room x t n a b = (h : ℕ) × Highest x t n h × ((h ≤ a) × (h ≤ b))
 abbrev pub Short : Sheet → List ℕ → ℕ → ℕ → ℕ → Type 0
 Short x t n a b = (h : ℕ) × Highest x t n h × ((a < h) ⊎ (b < h))
 
+-- the line that names a code
+abbrev pub KindLetter : ℕ → ℕ → Type 0
+KindLetter b i = ((b ≡ ascii "R") × (i ≡ fileR)) ⊎ (((b ≡ ascii "S") × (i ≡ fileS)) ⊎ ((b ≡ ascii "X") × (i ≡ fileX)))
+
+abbrev pub AskedCode : ℕ → List ℕ → Type 0
+AskedCode b c = (i : ℕ) × KindLetter b i × ((length (written i c) ≡ 2) × CodeOf i (written i c))
+
+abbrev pub NamedIn : Sheet → ℕ → List ℕ → ℕ → Type 0
+NamedIn r i c l =
+    ((k : ℕ) × (k + 1 ≡ l) × InHeader r k × NamesCode (r .layout) i c (r .row k)) ⊎ ((l ≡ 0) × (Named r i c → ⊥))
+
 abbrev pub asking : Type 0 → Type 0 → Order → Order
 asking A U o = look A (by U (№ 20 0 0 0)) then o
 
@@ -97,3 +115,6 @@ abbrev pub spreadOrder : Sheet → Sheet → Sheet → List ℕ → ℕ → ℕ 
 spreadOrder r s x t n a b =
     asking (Asked (x .layout) t n) (Unasked (x .layout) t n)
     (order r s x then look (Room x t n a b) (by (Short x t n a b) (№ 21 0 0 0)))
+
+abbrev pub tableOrder : Sheet → Sheet → Sheet → ℕ → List ℕ → Order
+tableOrder r s x b c = asking (AskedCode b c) (AskedCode b c → ⊥) (order r s x)

@@ -7,7 +7,7 @@
 --   Kept o             = each rule of it is met
 --   First o w          = w is its first breach: a rule is broken by w, and each rule before it is met
 --   formOrder i f      = "1, 2, 29, then line by line 3 (whole line), 4, 5 by field from the left, 6"
---   lineOrder, headerOrder, shotOrder, relationOrder = the parts of a line, of a header, of S and of X
+--   lineOrder, headerOrder, usedOrder, codesOrder, shotOrder, relationOrder = the parts of a line, of a header, of the code tables, of S and of X
 --   related x k R B v  = a rule of line k of X, where that is a relation line
 --   order r s x        = "First the form of R, then S, then X. .. Last 15."
 --   Refuses r s x w    = the set is refused by w
@@ -20,6 +20,8 @@ use Rattle.rules.specs.Sheet.{Sheet, mostLines, allLines}
 use Rattle.rules.specs.MeetsForm.{Rule29, Breach29}
 use Rattle.rules.specs.MeetsForm.{Data, Rule1, Rule2, Rule3, Rule4, Rule5, Rule6, Breach1, Breach2, Breach3, Breach4, Breach5, Breach6}
 use Rattle.rules.specs.MeetsHeaders.{Heads, Rule7, Rule8, Rule9, Breach7, Breach8, Breach9}
+use Rattle.rules.specs.Codes.{codeSpan}
+use Rattle.rules.specs.MeetsCodes.{Rule24, Rule25, Breach24, Breach25}
 use Rattle.rules.specs.MeetsSet.{Rule10, Rule11, Rule12, Rule13, Rule14, Rule15, Rule16, Rule17, Rule18, Rule19}
 use Rattle.rules.specs.MeetsSet.{Breach10, Breach11, Breach12, Breach13, Breach14, Breach15, Breach16, Breach17, Breach18, Breach19}
 
@@ -62,6 +64,16 @@ formOrder i f =
 abbrev pub headerOrder : ℕ → Sheet → Sheet → Order
 headerOrder i r f = look (Rule9 r f) (λ w. (k : ℕ) × inColumn (Breach9 r f k) (№ 9 i (k + 1)) w)
 
+-- "24 first, then 25 over R, S, X"
+abbrev pub usedOrder : ℕ → Sheet → Sheet → Order
+usedOrder i r f =
+    lineByLine (f .count) (λ k. look (Rule25 i r f k) (by (Breach25 i r f k) (№ 25 i (k + 1) (codeSpan (f .layout) i .first))))
+
+abbrev pub codesOrder : Sheet → Sheet → Sheet → Order
+codesOrder r s x =
+    lineByLine (r .count) (λ k. look (Rule24 r k) (by (Breach24 r k) (№ 24 fileR (k + 1) (r .layout .headerCode .first))))
+    then usedOrder fileR r r then usedOrder fileS r s then usedOrder fileX r x
+
 abbrev pub shotOrder : Sheet → ℕ → Order
 shotOrder s k =
     look (Rule11 s k) (by (Breach11 s k) (№ 11 fileS (k + 1) (s .layout .day .first)))
@@ -85,6 +97,7 @@ order r s x =
     then look (Rule7 r) (λ w. (h : ℕ) × Heads r h × by (Breach7 r) (№ 7 fileR (h + 1) 0) w)
     then lineByLine (r .count) (λ k. look (Rule8 r k) (by (Breach8 r k) (№ 8 fileR (k + 1) (r .layout .headerText .first))))
     then headerOrder fileS r s then headerOrder fileX r x
+    then codesOrder r s x
     then lineByLine (r .count) (λ k. look (Rule10 r k) (by (Breach10 r k) (№ 10 fileR (k + 1) (r .layout .name .first))))
     then lineByLine (s .count) (shotOrder s)
     then lineByLine (x .count) (relationOrder r s x)

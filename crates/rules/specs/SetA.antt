@@ -1,6 +1,7 @@
 -- "Small sets to try": set A and its changes, as bytes.
 --   put c t l          = line l with the text t from column c on
---   headers            = H00 to H20, H18 holding `UTM;`
+--   codeHeader n t     = header line n, of three digits, with the code t
+--   headers            = H00 to H20, H18 holding `UTM;`, then the tables of 1, G1 and V1
 --   pointLine          = a line of R or S: letter, line name, point, code
 --   relationLine       = a line of X: source point, channels and increment, receiver line name, receivers
 --   rOf, xOf           = an R file of three points, an X file of those lines
@@ -14,6 +15,7 @@ use Rattle.rules.specs.Text.{bytes}
 use Rattle.rules.specs.Names.{ranked}
 use Rattle.rules.specs.Tape.{page, byteIn}
 use Rattle.rules.specs.Headers.{twoDigits}
+use Rattle.rules.specs.Codes.{threeDigits}
 
 abbrev pub blankLine : List ℕ
 blankLine = replicate 80 32 ++ (13 ∷ 10 ∷ [])
@@ -28,8 +30,14 @@ abbrev pub headersFrom : ℕ → ℕ → List ℕ
 headersFrom zero k = []
 headersFrom (suc n) k = header k ++ headersFrom n (suc k)
 
+abbrev pub codeHeader : ℕ → String → List ℕ
+codeHeader n t = put 1 (bytes "H") (put 2 (threeDigits n) (put 33 (bytes t) blankLine))
+
+abbrev pub types : List ℕ
+types = headersFrom 18 0 ++ (put 33 (bytes "UTM;") (header 18) ++ headersFrom 2 19)
+
 abbrev pub headers : List ℕ
-headers = headersFrom 18 0 ++ (put 33 (bytes "UTM;") (header 18) ++ headersFrom 2 19)
+headers = types ++ (codeHeader 400 "1," ++ (codeHeader 600 "G1" ++ codeHeader 700 "V1"))
 
 abbrev pub pointLine : String → String → String → String → List ℕ
 pointLine letter name point code =

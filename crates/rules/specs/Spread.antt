@@ -19,7 +19,7 @@ use Rattle.rules.specs.Sheet.{Sheet}
 use Rattle.rules.specs.Lines.{isData}
 use Rattle.rules.specs.Relations.{reachAt}
 use Rattle.rules.specs.Reaches.{ofRecord}
-use Rattle.rules.specs.Check.{Answer, accepted, refusal, trace, channel, highest, noTrace, rules, answer}
+use Rattle.rules.specs.Check.{Answer, accepted, refusal, trace, channel, highest, headerLine, noTrace, rules, answer}
 use Rattle.rules.specs.Questions.{recordAsked, rule20}
 use Rattle.rules.specs.Lookup.{found}
 
@@ -34,6 +34,7 @@ lineOf (accepted a b c d) = 0
 lineOf (refusal w) = 0
 lineOf (channel c) = 0
 lineOf (highest c) = 0
+lineOf (headerLine l) = 0
 lineOf noTrace = 0
 
 unfoldable pub componentOf : Answer → ℕ
@@ -42,6 +43,7 @@ componentOf (accepted a b c d) = 0
 componentOf (refusal w) = 0
 componentOf (channel c) = 0
 componentOf (highest c) = 0
+componentOf (headerLine l) = 0
 componentOf noTrace = 0
 
 unfoldable pub turns : (ℕ → List ℕ → List ℕ) → ℕ → List ℕ → List ℕ

@@ -1,7 +1,7 @@
 -- An answer, by the verdict of a plan: what the code answers at each step of the order.
 --   refuses, accepts, counted-is        = an answer of a plan that refuses, and of one that is met
 --   known-set                           = three files whose form is met are known
---   refused-forms .. judged-across      = the order is that of its parts: the forms, the headers, then across the files
+--   refused-forms .. judged-across      = the order is that of its parts: the forms, the headers, the code tables, then across the files
 use Prim.Native.Nat.{ℕ}
 use mathlib.Core.Path.{_≡_, refl, sym, ap, _∙_}
 use mathlib.Core.List.{List}
@@ -11,6 +11,7 @@ use Rattle.rules.specs.Form.{form}
 use Rattle.rules.specs.Check.{Answer as PaperAnswer, accepted, refusal, answer, rules, verdict, points, relations, allTraces, check}
 use Rattle.rules.specs.Lines.{heads}
 use Rattle.rules.specs.Headers.{rule7, rule8, rule9}
+use Rattle.rules.specs.Codes.{codesFit}
 use Rattle.rules.proofs.Breach.{run-met}
 use Rattle.rules.proofs.Steps.{before-met, before-broken}
 use Rattle.lines.specs.declared.Reading.{Reading}
@@ -63,21 +64,25 @@ regroup fine fine fine fine fine fine (refused w) z = refl
 regroup fine fine fine fine fine fine fine z = refl
 
 module _ (r s x : Sheet) where
-  whole-order : answer (run (formsOf r s x before headersFit r s x before across r s x)) (counts r s x) ≡ check r s x
+  whole-order : answer (run (formsOf r s x before headersFit r s x before codesFit r s x before across r s x)) (counts r s x) ≡ check r s x
   unfolding check verdict rules run across counts headersFit
   whole-order =
       ap (λ (v : PaperVerdict). answer v (counts r s x))
       (regroup (run (form fileR r)) (run (form fileS s)) (run (form fileX x)) (run (rule7 r)) (run (upTo (heads r) (rule8 r)))
-      (run (rule9 fileS r s)) (run (rule9 fileX r x)) (run (across r s x)))
+      (run (rule9 fileS r s)) (run (rule9 fileX r x)) (run (codesFit r s x before across r s x)))
 
   module _ (m : fine ≡ run (formsOf r s x)) where
     pub refused-heads : (w : Refusal) → refused w ≡ run (headersFit r s x) → refusal w ≡ check r s x
     refused-heads w e = refuses _ _ w (before-broken _ _ w e ∙ before-met _ _ m) ∙ whole-order
 
-    pub judged-across : (a : PaperAnswer) → fine ≡ run (headersFit r s x) → a ≡ answer (run (across r s x)) (counts r s x)
-        → a ≡ check r s x
-    judged-across a n e =
-        e ∙ ap (λ (v : PaperVerdict). answer v (counts r s x)) (before-met _ _ n ∙ before-met _ _ m) ∙ whole-order
+    module _ (n : fine ≡ run (headersFit r s x)) where
+      pub refused-codes : (w : Refusal) → refused w ≡ run (codesFit r s x) → refusal w ≡ check r s x
+      refused-codes w e = refuses _ _ w (before-broken _ _ w e ∙ before-met _ _ n ∙ before-met _ _ m) ∙ whole-order
+
+      pub judged-across : (a : PaperAnswer) → fine ≡ run (codesFit r s x) → a ≡ answer (run (across r s x)) (counts r s x)
+          → a ≡ check r s x
+      judged-across a o e =
+          e ∙ ap (λ (v : PaperVerdict). answer v (counts r s x)) (before-met _ _ o ∙ before-met _ _ n ∙ before-met _ _ m) ∙ whole-order
 
   pub refused-forms : (w : Refusal) → refused w ≡ run (formsOf r s x) → refusal w ≡ check r s x
   refused-forms w e = refuses _ _ w (before-broken _ _ w e) ∙ whole-order

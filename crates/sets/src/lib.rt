@@ -1,4 +1,4 @@
-// The set check: the form of R, S and X, the header rules, then the rules across the files, and the counts of an accepted set.
+// The set check: the form of R, S and X, the header rules, the code tables, then the rules across the files, and the counts of an accepted set.
 // Two arrays of line numbers are its own, 80 KB of its stack; nothing is allocated.
 ghost use mathlib.Core.Path.{_≡_};
 ghost use Rattle.rules.specs.Plan.{run};
@@ -149,6 +149,10 @@ pub fn check(how: Reading, r: &[u8], s: &[u8], x: &[u8]) -> Answer
     }
     let u = headers::headers_fit(how, r, s, x);
     if let Verdict::Refused(n, i, k, c) = u {
+        return Answer::Refused(n, i, k, c);
+    }
+    let w = codes::codes_fit(how, r, s, x);
+    if let Verdict::Refused(n, i, k, c) = w {
         return Answer::Refused(n, i, k, c);
     }
     answer_across(how, r, s, x)

@@ -17,7 +17,7 @@ use Rattle.rules.specs.Sheet.{Sheet, mostLines, allLines}
 use Rattle.rules.specs.Medium.{Medium, sheet}
 use Rattle.rules.specs.Layout.{sps93}
 use Rattle.rules.specs.Lines.{isData, isPoint}
-use Rattle.rules.specs.Check.{Answer, accepted, refusal, trace, channel, highest, noTrace, check}
+use Rattle.rules.specs.Check.{Answer, accepted, refusal, trace, channel, highest, headerLine, noTrace, check}
 use Rattle.rules.specs.MeetsForm.{Data, Point}
 use Rattle.rules.proofs.Form.{data-is, point-is}
 use Rattle.rules.proofs.Counts.{how-many, how-much, accepted-is}
@@ -76,6 +76,7 @@ counted-view P f g (refusal w) o = g o
 counted-view P f g (trace l m) o = g o
 counted-view P f g (channel c) o = g o
 counted-view P f g (highest c) o = g o
+counted-view P f g (headerLine l) o = g o
 counted-view P f g noTrace o = g o
 
 -- the counts of an accepted set are far below 2^64

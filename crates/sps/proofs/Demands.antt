@@ -18,16 +18,20 @@ use Rattle.rules.specs.Tape.{tape}
 use Rattle.rules.specs.Check.{Answer as PaperAnswer, refusal, check}
 use Rattle.rules.specs.Calls.{Choice, on, none, choice, chosen, Chosen}
 use Rattle.rules.specs.Lookup.{lookup, wayBack}
+use Rattle.rules.specs.Tables.{tableLine}
 use Rattle.rules.specs.Hosts.{hostNumber, numbersOf}
 use Rattle.rules.proofs.Medium.{Lawful, askable}
 use Rattle.rules.proofs.Media.{chosen-lawful, disc-is, tape-is, none-is}
 use Rattle.rules.proofs.Listed.{asked-listed}
-use Rattle.rules.proofs.Hosts.{Sized, check-sized, lookup-sized, back-sized, spread-sized}
+use Rattle.rules.proofs.Hosts.{Sized, check-sized, lookup-sized, back-sized, spread-sized, table-sized}
 use Rattle.sets.specs.declared.Answer.{Answer as SetAnswer}
 use Rattle.sets.specs.declared.Answer.the-variants.{Accepted, Refused as SetRefused}
 use Rattle.sets.specs.Paper.{paper as setPaper}
 use Rattle.sets.specs.Judged.{Judged}
 use Rattle.sets.proofs.Demands.{judged}
+use Rattle.tables.specs.declared.Answer.{Answer as LineAnswer}
+use Rattle.tables.specs.Said.{Told}
+use Rattle.tables.proofs.Demands.{told-of}
 use Rattle.traces.specs.declared.Answer.{Answer}
 use Rattle.traces.specs.declared.Spread.{Spread}
 use Rattle.traces.specs.Said.{Traced, Returned, Tabled}
@@ -36,8 +40,8 @@ use Rattle.traces.specs.Calls.{tableOf, SpreadBytes}
 use Rattle.traces.proofs.Told.{traced, came-back, bytes-tabled, odd-byte}
 use Rattle.sps.specs.Table.{SpreadTold}
 use Rattle.sps.specs.Counts.{counted}
-use Rattle.sps.specs.Said.{RefusedAs, TellsSet, Tells, TellsSpread, CountsTold}
-use Rattle.sps.proofs.Told.{refused-as, tells-set, tells, tells-spread, set-answer, lookup-answer, back-answer, spread-answer}
+use Rattle.sps.specs.Said.{RefusedAs, TellsSet, Tells, TellsSpread, TellsLine, CountsTold}
+use Rattle.sps.proofs.Told.{refused-as, tells-set, tells, tells-spread, tells-line, set-answer, lookup-answer, back-answer, spread-answer, line-answer}
 use Rattle.sps.proofs.Counts.{length-stays, count-at, beyond-stays, refusal-stays}
 use Rattle.sps.proofs.sps_check as sps-check
 use Rattle.sps.proofs.sps_check.Reads as sps-check-reads
@@ -47,6 +51,8 @@ use Rattle.sps.proofs.sps_trace as sps-trace
 use Rattle.sps.proofs.sps_trace.Reads as sps-trace-reads
 use Rattle.sps.proofs.sps_channel as sps-channel
 use Rattle.sps.proofs.sps_channel.Reads as sps-channel-reads
+use Rattle.sps.proofs.sps_table_line as sps-table-line
+use Rattle.sps.proofs.sps_table_line.Reads as sps-table-line-reads
 use Rattle.sps.proofs.sps_spread as sps-spread
 use Rattle.sps.proofs.sps_spread.Reads as sps-spread-reads
 
@@ -96,6 +102,15 @@ module _ (M : Medium) (g : Lawful M) (r s x : List ℕ) where
           came-back _ _ _ (λ ok. askable M g _ _ x ok) t k j m (a .0) (a .1),
           tells (a .0) (subst Sized (sym (a .1)) (back-sized M g r s x t k j m)) n (e ∙ ap hostNumber (sym (a .1))),
         )
+
+  naming-told : (b : ℕ) (c : List ℕ) (n : ℕ) → n ≡ hostNumber (tableLine (file r) (file s) (file x) b c)
+      → (v : LineAnswer) × Told (file r) (file s) (file x) b c v × TellsLine n v
+  naming-told b c n e =
+      let a = line-answer (file r) (file s) (file x) b c in (
+        a .0,
+        told-of _ _ _ b c (a .0) (a .1),
+        tells-line (a .0) (subst Sized (sym (a .1)) (table-sized M g r s x b c)) n (e ∙ ap hostNumber (sym (a .1))),
+      )
 
   table-told : (t : List ℕ) (k : ℕ) (d e d′ e′ : List ℕ) (n : ℕ) (u : PaperAnswer) → n ≡ hostNumber u
       → SpreadBytes (tableOf file r s x t k d e) u d′ e′
@@ -178,6 +193,20 @@ channel-told κs a n w p =
     (λ M y.
     back-told M (chosen-lawful (a .0) M y) (now (a .1 .0)) (now (a .1 .1 .0)) (now (a .1 .1 .1 .0)) (now (a .1 .1 .1 .1 .0)) (a .1 .1 .1 .1 .1 .0)
     (a .1 .1 .1 .1 .1 .1 .0) (a .1 .1 .1 .1 .1 .1 .1 .0) n (answered (choice (a .0)) (on M) _ n p y))
+    (unknown (choice (a .0)) _ n p)
+
+-- and of the code tables
+pub line-told : (κs : Lfts 4) (a : ArgsD sps-table-line.signature κs) (n : ResD sps-table-line.signature κs) (w : AtExit sps-table-line.ended κs)
+    → sps-table-line-reads.Post κs a n w
+    → Chosen (choice (a .0))
+    (λ M. (v : LineAnswer) × Told (sheet M sps93 (now (a .1 .0))) (sheet M sps93 (now (a .1 .1 .0))) (sheet M sps93 (now (a .1 .1 .1 .0)))
+    (a .1 .1 .1 .1 .0) (now (a .1 .1 .1 .1 .1 .0)) v × TellsLine n v)
+    (RefusedAs n 20 0 0 0)
+line-told κs a n w p =
+    told (choice (a .0)) _ _
+    (λ M y.
+    naming-told M (chosen-lawful (a .0) M y) (now (a .1 .0)) (now (a .1 .1 .0)) (now (a .1 .1 .1 .0)) (a .1 .1 .1 .1 .0) (now (a .1 .1 .1 .1 .1 .0)) n
+    (answered (choice (a .0)) (on M) _ n p y))
     (unknown (choice (a .0)) _ n p)
 
 -- and of the spread table, where 20 writes nothing; "bytes at its end too few for a number are no place and stay"

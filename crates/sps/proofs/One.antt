@@ -33,6 +33,10 @@ use Rattle.sps.proofs.sps_trace as sps-trace
 use Rattle.sps.proofs.sps_trace.Reads as sps-trace-reads
 use Rattle.sps.proofs.sps_channel as sps-channel
 use Rattle.sps.proofs.sps_channel.Reads as sps-channel-reads
+use Rattle.sps.proofs.line_number as line-number
+use Rattle.sps.proofs.line_number.Reads as line-number-reads
+use Rattle.sps.proofs.sps_table_line as sps-table-line
+use Rattle.sps.proofs.sps_table_line.Reads as sps-table-line-reads
 use Rattle.sps.proofs.sps_spread as sps-spread
 use Rattle.sps.proofs.sps_spread.Reads as sps-spread-reads
 
@@ -71,6 +75,12 @@ sps-trace-one κs a v v′ w w′ p p′ = (p ∙ sym p′, refl)
 
 pub sps-channel-one : One sps-channel.ended sps-channel-reads.Post
 sps-channel-one κs a v v′ w w′ p p′ = (p ∙ sym p′, refl)
+
+pub line-number-one : One line-number.ended line-number-reads.Post
+line-number-one κs a v v′ w w′ p p′ = (p ∙ sym p′, refl)
+
+pub sps-table-line-one : One sps-table-line.ended sps-table-line-reads.Post
+sps-table-line-one κs a v v′ w w′ p p′ = (p ∙ sym p′, refl)
 
 -- the spread table, by the medium that is chosen
 told-one : (d : Choice) (T : Medium → Table) (o q : List ℕ) (a a′ : ℕ) (l l′ m m′ : List ℕ) → SpreadTold d T o q a l m → SpreadTold d T o q a′ l′ m′

@@ -5,9 +5,12 @@ use native.Mathlib.Omega.{arith}
 use mathlib.Core.Path.{_≡_, refl, sym, ap, _∙_}
 use mathlib.Core.Logic.{⊎-elim}
 use mathlib.Core.List.{List}
-use Rattle.rules.specs.Plan.{№, Verdict, fine, refused, run}
+use Rattle.rules.specs.Plan.{№, Verdict, fine, refused, _before_, run}
 use Rattle.rules.specs.Sheet.{Sheet}
-use Rattle.rules.specs.Check.{Answer, accepted, refusal, highest, verdict, answer, points, relations, allTraces, check}
+use Rattle.rules.specs.Codes.{lineNaming}
+use Rattle.rules.specs.Check.{Answer, accepted, refusal, highest, headerLine, rules, verdict, answer, points, relations, allTraces, check}
+use Rattle.rules.specs.Questions.{rule20}
+use Rattle.rules.specs.Tables.{kindOf, written, codeAsked, tableLine}
 use Rattle.rules.specs.Medium.{Medium}
 use Rattle.rules.specs.Calls.{Choice as PaperChoice, on, none, chosen}
 use Rattle.rules.specs.Lookup.{found, foundBack, lookup, wayBack}
@@ -24,12 +27,15 @@ use Rattle.lines.specs.declared.Choice.the-variants.{On, None}
 use Rattle.sets.specs.declared.Answer.{Answer as SetAnswer}
 use Rattle.sets.specs.declared.Answer.the-variants.{Accepted, Refused as SetRefused}
 use Rattle.sets.specs.Paper.{paper as setPaper}
+use Rattle.tables.specs.declared.Answer.{Answer as LineAnswer}
+use Rattle.tables.specs.declared.Answer.the-variants.{Line, Refused as LineRefused}
+use Rattle.tables.specs.Paper.{paper as linePaper}
 use Rattle.traces.specs.declared.Answer.{Answer as Question}
 use Rattle.traces.specs.declared.Answer.the-variants.{Trace, Channel, NoTrace, Refused}
 use Rattle.traces.specs.declared.Spread.{Spread}
 use Rattle.traces.specs.declared.Spread.the-variants.{Highest, Refused as Denied}
 use Rattle.traces.specs.Paper.{paper as questionPaper, paperSpread}
-use Rattle.sps.specs.Said.{RefusedAs, TellsSet, Tells, TellsSpread}
+use Rattle.sps.specs.Said.{RefusedAs, TellsSet, Tells, TellsSpread, TellsLine}
 
 pub refused-as : (i f l c : ℕ) → Listed (№ i f l c) → (n : ℕ) → n ≡ packed (№ i f l c) → RefusedAs n i f l c
 unfolding packed
@@ -56,6 +62,11 @@ pub tells-spread : (v : Spread) → Sized (paperSpread v) → (n : ℕ) → n �
 unfolding hostNumber
 tells-spread (Highest h) z n e = (omega arith, e)
 tells-spread (Denied i f l c) z n e = refused-as i f l c z n e
+
+pub tells-line : (v : LineAnswer) → Sized (linePaper v) → (n : ℕ) → n ≡ hostNumber (linePaper v) → TellsLine n v
+unfolding hostNumber
+tells-line (Line l) z n e = (omega arith, e)
+tells-line (LineRefused i f l c) z n e = refused-as i f l c z n e
 
 -- the medium that the code has chosen
 module _ (d : Choice) (e : PaperChoice) (p : chosenBy d ≡ e) where
@@ -102,3 +113,11 @@ spread-answer r s x t n a b = go (spreadVerdict r s x t n a b)
     go : (u : Verdict) → (v : Spread) × (paperSpread v ≡ answer u (highest (highestOf x t n)))
     go fine = (Highest (highestOf x t n), refl)
     go (refused (№ i f l c)) = (Denied i f l c, refl)
+
+pub line-answer : (r s x : Sheet) (b : ℕ) (c : List ℕ) → (v : LineAnswer) × (linePaper v ≡ tableLine r s x b c)
+unfolding tableLine answer
+line-answer r s x b c = go (run (rule20 (codeAsked (kindOf b) c) before rules r s x))
+  where
+    go : (u : Verdict) → (v : LineAnswer) × (linePaper v ≡ answer u (headerLine (lineNaming r (kindOf b) (written (kindOf b) c))))
+    go fine = (Line (lineNaming r (kindOf b) (written (kindOf b) c)), refl)
+    go (refused (№ i f l d)) = (LineRefused i f l d, refl)

@@ -5,6 +5,7 @@
 --   TellsSet n a         = n is the number of an answer to the set check
 --   Tells n a            = n is the number of an answer to a question
 --   TellsSpread n a      = n is the number of an answer of the spread table
+--   TellsLine n a        = n is the number of an answer on the code tables
 --   valueOf bs, readAt i o = the number of some bytes, low byte first; of place i, of eight bytes
 --   CountsTold v o e     = what stands in the slice of counts, o before and e after the call that answers v
 use Prim.Native.Nat.{ℕ, _+_, _*_, _/_, _%_, _^_, _≤_, _<_}
@@ -13,6 +14,8 @@ use mathlib.Core.List.{List, [], _∷_}
 use lib.ListN.{length, getD, take, drop}
 use Rattle.sets.specs.declared.Answer.{Answer as SetAnswer}
 use Rattle.sets.specs.declared.Answer.the-variants.{Accepted, Refused as SetRefused}
+use Rattle.tables.specs.declared.Answer.{Answer as LineAnswer}
+use Rattle.tables.specs.declared.Answer.the-variants.{Line, Refused as LineRefused}
 use Rattle.traces.specs.declared.Answer.{Answer}
 use Rattle.traces.specs.declared.Answer.the-variants.{Trace, Channel, NoTrace, Refused}
 use Rattle.traces.specs.declared.Spread.{Spread}
@@ -35,6 +38,10 @@ Tells n (Refused i f l c) = RefusedAs n i f l c
 abbrev pub TellsSpread : ℕ → Spread → Type 0
 TellsSpread n (Highest h) = (n < 2 ^ 40) × (n ≡ h)
 TellsSpread n (Denied i f l c) = RefusedAs n i f l c
+
+abbrev pub TellsLine : ℕ → LineAnswer → Type 0
+TellsLine n (Line l) = (n < 2 ^ 40) × (n ≡ l)
+TellsLine n (LineRefused i f l c) = RefusedAs n i f l c
 
 abbrev pub valueOf : List ℕ → ℕ
 valueOf [] = 0

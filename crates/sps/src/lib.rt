@@ -1,19 +1,22 @@
-// The calls for C hosts, which `include/sps.h` declares: the check, both lookups and the spread table, on numbers and byte slices.
+// The calls for C hosts, which `include/sps.h` declares: the check, both lookups, the spread table and the line that names a code, on numbers
+// and byte slices.
 // Each carries the answer of the proved call over as one 64-bit number: a refusal from 2^40 on, any other answer below. The number of the
 // medium comes first, and is looked at before all else.
 ghost use mathlib.Core.Path.{_≡_};
 ghost use Rattle.rules.specs.Plan.{№};
 ghost use Rattle.rules.specs.Layout.{sps93};
 ghost use Rattle.rules.specs.Medium.{sheet};
-ghost use Rattle.rules.specs.Calls.{choice, checkIn, lookupIn, wayBackIn};
+ghost use Rattle.rules.specs.Calls.{choice, checkIn, lookupIn, wayBackIn, tableLineIn};
 ghost use Rattle.rules.specs.Hosts.{packed, hostNumber};
 ghost use Rattle.sets.specs.Paper.{paper as setPaper};
 ghost use Rattle.traces.specs.Paper.{paper as questionPaper, paperSpread};
 ghost use Rattle.traces.specs.Calls.{tableOf};
+ghost use Rattle.tables.specs.Paper.{paper as linePaper};
 ghost use Rattle.sps.specs.Counts.{counted};
 ghost use Rattle.sps.specs.Table.{SpreadTold};
 use lines::Choice;
 use sets::Answer as SetAnswer;
+use tables::Answer as LineAnswer;
 use traces::Answer;
 use traces::Question;
 use traces::Spread;
@@ -66,6 +69,16 @@ fn spread_number(a: Spread) -> u64
     match a {
         Spread::Highest(h) => h,
         Spread::Refused(n, f, l, c) => pack(n, f, l, c),
+    }
+}
+
+// The answer on the code tables as one number: the header line.
+fn line_number(a: LineAnswer) -> u64
+    ensures value { λ n. ⌜ n ≡ hostNumber (linePaper a) ⌝ }
+{
+    match a {
+        LineAnswer::Line(l) => l as u64,
+        LineAnswer::Refused(n, f, l, c) => pack(n, f, l, c),
     }
 }
 
@@ -167,6 +180,25 @@ pub extern "C" fn sps_spread(
             let q = Question { how, record };
             spread_number(traces::spread_bytes(q, r, s, x, tape, lines, components))
         }
+        Choice::None => pack(20, 0, 0, 0),
+    }
+}
+
+// The header line of R that names a code, 0 for none; the kind is a letter's byte, R, S, or X for instruments.
+#[no_mangle]
+pub extern "C" fn sps_table_line(
+    medium: u64,
+    r: &[u8],
+    s: &[u8],
+    x: &[u8],
+    kind: u64,
+    code: &[u8],
+) -> u64
+    ensures answer { λ n. ⌜ n
+        ≡ hostNumber (tableLineIn (choice medium) (now (r .entry)) (now (s .entry)) (now (x .entry)) kind (now (code .entry))) ⌝ }
+{
+    match lines::chosen(medium) {
+        Choice::On(how) => line_number(tables::table_line(how, r, s, x, kind, code)),
         Choice::None => pack(20, 0, 0, 0),
     }
 }

@@ -1,12 +1,12 @@
 -- A question after the set's own refusals.
 use Prim.Native.Nat.{ℕ, _+_, _≤_, _<_}
 use native.Mathlib.Omega.{arith}
-use mathlib.Core.Path.{_≡_, refl, sym, ap, ap₂, _∙_}
+use mathlib.Core.Path.{_≡_, sym, ap, ap₂, _∙_}
 use mathlib.Core.Bool.{Bool, true, false, _&&_}
 use mathlib.Core.List.{List}
 use borrow.Author.Tests.{lt-ltb, le-ltb}
 use Rattle.rules.specs.Places.{pick}
-use Rattle.rules.specs.Plan.{Refusal, Verdict, fine, refused, №, _before_, run}
+use Rattle.rules.specs.Plan.{Refusal, fine, refused, №, _before_, run}
 use Rattle.rules.specs.Layout.{sps93}
 use Rattle.rules.specs.Sheet.{Sheet, mostLines}
 use Rattle.rules.specs.Relations.{reachAt}
@@ -14,10 +14,9 @@ use Rattle.rules.specs.Cover.{carries, leads, component}
 use Rattle.rules.specs.Order.{lineOfPoint, receiverLine}
 use Rattle.rules.specs.Reaches.{reachesOf, search}
 use Rattle.rules.specs.Form.{form}
-use Rattle.rules.specs.Check.{Answer as PaperAnswer, accepted, refusal, trace, noTrace, rules, verdict, answer, check}
+use Rattle.rules.specs.Check.{Answer as PaperAnswer, refusal, trace, noTrace, rules, verdict, answer}
 use Rattle.rules.specs.Questions.{recordAsked, channelAsked, rule20}
 use Rattle.rules.specs.Lookup.{found}
-use Rattle.rules.proofs.Steps.{need-met, need-broken, before-met, before-broken}
 use Rattle.rules.proofs.Least.{least-below}
 use Rattle.rules.proofs.Breach.{run-met}
 use Rattle.rules.proofs.Meets.{form-is}
@@ -31,23 +30,10 @@ use Rattle.form.proofs.Known.{known, from-receiver-small, to-receiver-small, up
 use Rattle.records.specs.Coded.{codedReach}
 use Rattle.records.specs.declared.relation.Reach.{Reach as Numbers}
 use Rattle.keys.specs.Held.{RelationLine}
-use Rattle.sets.specs.declared.Answer.{Answer as SetAnswer}
-use Rattle.sets.specs.declared.Answer.the-variants.{Accepted as SetAccepted, Refused as SetRefused}
-use Rattle.sets.specs.Paper.{paper as setPaper, checkOn}
+use Rattle.sets.proofs.Verdicts as set
 use Rattle.spread.specs.Asked.{Accepted}
 use Rattle.spread.proofs.Asked.{sound-line}
 use Rattle.traces.specs.Steps.{tracedOn}
-
--- what an answer tells of the verdict
-told-refused : (v : Verdict) (a b c d : ℕ) (w : Refusal) → refusal w ≡ answer v (accepted a b c d) → v ≡ refused w
-unfolding answer
-told-refused fine a b c d w e = absurd (let z : _≡_ {A = ℕ} 0 1 = cc in omega arith)
-told-refused (refused u) a b c d w e = cc
-
-told-accepted : (v : Verdict) (a b c d a′ b′ c′ d′ : ℕ) → accepted a b c d ≡ answer v (accepted a′ b′ c′ d′) → v ≡ fine
-unfolding answer
-told-accepted fine a b c d a′ b′ c′ d′ e = refl
-told-accepted (refused u) a b c d a′ b′ c′ d′ e = absurd (let z : _≡_ {A = ℕ} 0 1 = cc in omega arith)
 
 module _ (how : Reading) (r s x : List ℕ) where
   -- R and X of an accepted set
@@ -63,16 +49,6 @@ module _ (how : Reading) (r s x : List ℕ) where
         alike = rank-same how r x;
       }
 
-  -- what the set check says
-  module _ (v : SetAnswer) (e : setPaper v ≡ checkOn how r s x) where
-    pub set-accepted : (n m k t : ℕ) → v ≡ SetAccepted n m k t → verdict (sheetOf how r) (sheetOf how s) (sheetOf how x) ≡ fine
-    unfolding check
-    set-accepted n m k t y = told-accepted _ n m k t _ _ _ _ (ap setPaper (sym y) ∙ e)
-
-    pub set-refused : (n f l c : ℕ) → v ≡ SetRefused n f l c → verdict (sheetOf how r) (sheetOf how s) (sheetOf how x) ≡ refused (№ n f l c)
-    unfolding check
-    set-refused n f l c y = told-refused _ _ _ _ _ (№ n f l c) (ap setPaper (sym y) ∙ e)
-
   -- 20, then the set's own refusals, then what is found
   module _ (t : List ℕ) (n : ℕ) (q : Bool) (A : PaperAnswer) where
     abbrev Says : PaperAnswer → Type 0
@@ -81,33 +57,26 @@ module _ (how : Reading) (r s x : List ℕ) where
         ≡ answer
         (run (rule20 (recordAsked (sheetOf how x .layout) t n && q) before rules (sheetOf how r) (sheetOf how s) (sheetOf how x))) A
 
-    refuses : (b : Bool) → (recordAsked (sheetOf how x .layout) t n && q) ≡ b → b ≡ false → Says (refusal (№ 20 0 0 0))
-    unfolding rule20 answer
-    refuses b e z = rw (← before-broken (rule20 _) (rules (sheetOf how r) (sheetOf how s) (sheetOf how x)) (№ 20 0 0 0) (need-broken _ _ (e ∙ z)))
-
     module _ (a : Bool) (ea : a ≡ recordAsked sps93 t n) where
       first : recordAsked (sheetOf how x .layout) t n ≡ a
       first = (rw (layout-is how x)) ∙ sym ea
 
       pub not-asked : a ≡ false → Says (refusal (№ 20 0 0 0))
-      not-asked z = refuses false (rw (first, z)) refl
+      not-asked z = set.asked-not _ _ _ A _ (rw (first, z))
 
       module _ (ya : a ≡ true) (b : Bool) (eb : b ≡ q) where
         pub out-of-range : b ≡ false → Says (refusal (№ 20 0 0 0))
-        out-of-range z = refuses false (rw (first, ya, ← eb, z)) refl
+        out-of-range z = set.asked-not _ _ _ A _ (rw (first, ya, ← eb, z))
 
         module _ (yb : b ≡ true) where
-          both : fine ≡ run (rule20 (recordAsked (sheetOf how x .layout) t n && q))
-          unfolding rule20
-          both = need-met _ _ (rw (first, ya, ← eb, yb))
+          both : (recordAsked (sheetOf how x .layout) t n && q) ≡ true
+          both = rw (first, ya, ← eb, yb)
 
           pub own-refusal : (w : Refusal) → verdict (sheetOf how r) (sheetOf how s) (sheetOf how x) ≡ refused w → Says (refusal w)
-          unfolding verdict answer
-          own-refusal w y = rw (← before-met _ (rules (sheetOf how r) (sheetOf how s) (sheetOf how x)) both, y)
+          own-refusal = set.own-refusal _ _ _ A _ both
 
           pub in-range : verdict (sheetOf how r) (sheetOf how s) (sheetOf how x) ≡ fine → Says A
-          unfolding verdict answer
-          in-range y = rw (← before-met _ (rules (sheetOf how r) (sheetOf how s) (sheetOf how x)) both, y)
+          in-range = set.asked-fine _ _ _ A _ both
 
 -- a channel by the layout of X
 pub channel-on : (how : Reading) (x : List ℕ) (c : ℕ) (b : Bool) → b ≡ channelAsked sps93 c → b ≡ channelAsked (sheetOf how x .layout) c

@@ -8,7 +8,7 @@ use mathlib.Core.List.{List, [], _∷_, _++_}
 use Rattle.rules.specs.Text.{bytes}
 use Rattle.rules.specs.Lines.{letter}
 use Rattle.rules.specs.Plan.{№}
-use Rattle.rules.specs.Check.{Answer, accepted, refusal, trace, channel, highest, noTrace}
+use Rattle.rules.specs.Check.{Answer, accepted, refusal, trace, channel, highest, headerLine, noTrace}
 use Rattle.words.specs.Digits.{decimal}
 
 unfoldable pub row : List ℕ → List ℕ → List ℕ → List ℕ → List ℕ → List ℕ
@@ -20,6 +20,7 @@ line (refusal (№ n f l c)) = row (bytes "REFUSED") (decimal n) (letter f ∷ [
 line (trace l m) = []
 line (channel c) = []
 line (highest c) = []
+line (headerLine l) = []
 line noTrace = []
 
 unfoldable pub noFile : ℕ → List ℕ

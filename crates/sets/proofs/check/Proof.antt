@@ -1,6 +1,6 @@
 -- `sets::check` meets its contract. Assumes nothing.
 use Rattle.form.proofs.Laws.{is-broken, is-met}
-use Rattle.sets.proofs.Answers.{judged-across, known-set, refused-forms, refused-heads}
+use Rattle.sets.proofs.Answers.{judged-across, known-set, refused-codes, refused-forms, refused-heads}
 use borrow.Author.Needs.{needs}
 use Rattle.sets.proofs.check.Statement.{statement}
 use Rattle.sets.proofs.check.Tie as tie
@@ -35,17 +35,39 @@ returns-2 c =
 enum-told-2 : tie.Need-enum-told-2
 enum-told-2 c = search needs
 
-answer-across-requires : tie.Need-answer-across-requires
-answer-across-requires c κs =
+codes-fit-requires : tie.Need-codes-fit-requires
+codes-fit-requires c κs =
     let b = c .before .before .before in
     let a = b .before .before .before .before .before .before .args in
-    known-set (a .how) (a .r .now) (a .s .now) (a .x .now) (is-met _ _ (b .before .before .forms .ensures) (b .enum-told .given .1))
+    let k = known-set (a .how) (a .r .now) (a .s .now) (a .x .now) (is-met _ _ (b .before .before .forms .ensures) (b .enum-told .given .1)) in
+    (k .receivers, (k .shots, k .relations))
+
+enum-known-w : tie.Need-enum-known-w
+enum-known-w c = search needs
 
 returns-3 : tie.Need-returns-3
 returns-3 c =
-    let b = c .before .before .before in
-    judged-across _ _ _ (is-met _ _ (b .before .before .before .forms .ensures) (b .before .enum-told .given .1)) _
-    (is-met _ _ (b .headers-fit .ensures) (c .before .enum-told2 .given .1)) (c .answer-across .ensures)
+    let h = c .before .before .before in
+    let b = h .before .before .before in
+    refused-codes _ _ _ (is-met _ _ (b .before .before .before .forms .ensures) (b .before .enum-told .given .1))
+    (is-met _ _ (b .headers-fit .ensures) (h .before .enum-told2 .given .1)) _ (is-broken _ _ (h .codes-fit .ensures) (c .before .w .given .1))
+
+enum-told-3 : tie.Need-enum-told-3
+enum-told-3 c = search needs
+
+answer-across-requires : tie.Need-answer-across-requires
+answer-across-requires c κs =
+    let b = c .before .before .before .before .before .before in
+    let a = b .before .before .before .before .before .before .args in
+    known-set (a .how) (a .r .now) (a .s .now) (a .x .now) (is-met _ _ (b .before .before .forms .ensures) (b .enum-told .given .1))
+
+returns-4 : tie.Need-returns-4
+returns-4 c =
+    let h = c .before .before .before in
+    let b = h .before .before .before in
+    judged-across _ _ _ (is-met _ _ (b .before .before .before .forms .ensures) (b .before .enum-told .given .1))
+    (is-met _ _ (b .headers-fit .ensures) (h .before .enum-told2 .given .1)) _ (is-met _ _ (h .codes-fit .ensures) (c .before .enum-told3 .given .1))
+    (c .answer-across .ensures)
 
 pub check-spec : {M : Type 1} → statement M
 check-spec =
@@ -59,5 +81,9 @@ check-spec =
     enum-known-u
     returns-2
     enum-told-2
+    codes-fit-requires
+    enum-known-w
+    returns-3
+    enum-told-3
     answer-across-requires
-    returns-3)
+    returns-4)

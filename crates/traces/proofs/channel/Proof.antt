@@ -1,7 +1,8 @@
 -- `traces::channel` meets its contract. Assumes nothing.
 use Rattle.rules.specs.Lookup.{wayBack}
 use Rattle.traces.proofs.Ranges.{line-asked}
-use Rattle.traces.proofs.Sets.{in-range, in-set, not-asked, out-of-range, own-refusal, set-accepted, set-refused}
+use Rattle.traces.proofs.Sets.{in-range, in-set, not-asked, out-of-range, own-refusal}
+use Rattle.sets.proofs.Verdicts.{set-accepted, set-refused}
 use borrow.Author.Needs.{needs}
 use borrow.Author.Tests.{not-false, not-true}
 use mathlib.Core.Path.{_∙_, sym}

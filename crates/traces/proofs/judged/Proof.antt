@@ -1,6 +1,7 @@
 -- `traces::judged` meets its contract. Assumes nothing.
-use Rattle.traces.proofs.Sets.{in-set, set-accepted, set-refused}
+use Rattle.traces.proofs.Sets.{in-set}
 use Rattle.traces.proofs.Tables.{first-short, not-asked as record-out, says-highest, second-short, set-refuses, too-short}
+use Rattle.sets.proofs.Verdicts.{set-accepted, set-refused}
 use borrow.Author.Needs.{needs}
 use borrow.Author.Tests.{not-false, not-true}
 use mathlib.Core.Path.{_∙_, sym}

@@ -1,6 +1,7 @@
 -- `traces::trace` meets its contract. Assumes nothing.
 use Rattle.rules.specs.Lookup.{lookup}
-use Rattle.traces.proofs.Sets.{channel-on, in-range, in-set, not-asked, out-of-range, own-refusal, set-accepted, set-refused}
+use Rattle.traces.proofs.Sets.{channel-on, in-range, in-set, not-asked, out-of-range, own-refusal}
+use Rattle.sets.proofs.Verdicts.{set-accepted, set-refused}
 use borrow.Author.Needs.{needs}
 use borrow.Author.Tests.{not-false, not-true}
 use mathlib.Core.Path.{_∙_, sym}
