@@ -17,9 +17,10 @@
  *     number * 2^40 + file * 2^32 + line * 256 + column
  *
  * with the numbers and files of the enums below; file, line and column are 0 where there is none.
- * It is never below 2^40, and every other answer is: the traces, R line * 16 + component, the
- * channel, the highest channel or the header line, and 0 where there is none. An accepted set
- * without traces answers 0 too. The inline functions at the end take a number apart.
+ * It is never below 2^40, and every other answer is: the traces, R line * 16 + component with 2^32
+ * more where the receiver is killed, the channel, the highest channel or the header line, and 0
+ * where there is none. An accepted set without traces answers 0 too. The inline functions at the
+ * end take a number apart.
  *
  * A refusal is the first breach in this order: a medium that is neither (20, before all else); a
  * question out of range (20); the form of R, then S, then X (1, 2, on tape 29, then 3 to 6 line by
@@ -31,6 +32,10 @@
  * .. H690 those of receivers, H700, H720, .. H880 those of sources, H400, H420, .. H560
  * instruments, a digit and a comma. No code is named twice (24), and each that R, S or X uses is
  * named (25), PM and KL aside. Other header lines, and what is no code of the kind, name nothing.
+ *
+ * A point of code KL is killed, and counts as a receiver or a shot all the same. A killed receiver
+ * holds its channels, and the traces on them are dead. No relation line may name a killed shot
+ * (13), and none has to (15).
  *
  * A call takes any bytes and any numbers. The medium and the numbers of a question are 64-bit, so
  * that nothing is cut before it is judged.
@@ -78,9 +83,9 @@ enum sps_number {
     SPS_RECEIVER_ORDER = 10,   /* a receiver is not above the one before, in the medium's bytes */
     SPS_SHOT_EARLIER = 11,     /* a shot is earlier than the one before it */
     SPS_SHOT_REPEATED = 12,    /* a shot repeats an earlier one */
-    SPS_NO_SHOT = 13,          /* no shot is the relation line's source */
+    SPS_NO_SHOT = 13,          /* no shot is the relation line's source, or a killed one is */
     SPS_SHOT_ORDER = 14,       /* its shot stands in S before that of the previous relation line */
-    SPS_SHOT_NOT_NAMED = 15,   /* no relation line names a shot */
+    SPS_SHOT_NOT_NAMED = 15,   /* no relation line names a shot that is not killed */
     SPS_RECORD = 16,           /* the lines of a record do not stand together, or differ */
     SPS_CHANNEL_ORDER = 17,    /* the channels of a record do not ascend */
     SPS_NO_RECEIVER = 18,      /* a covered receiver is not there */
@@ -111,25 +116,27 @@ uint64_t sps_check(uint64_t medium, const uint8_t *r, size_t r_len, const uint8_
 enum sps_place {
     SPS_RECEIVERS = 0,
     SPS_SHOTS = 1,
-    SPS_RELATIONS = 2, /* relation lines */
-    SPS_TRACES = 3
+    SPS_RELATIONS = 2,  /* relation lines */
+    SPS_TRACES = 3,     /* dead ones too */
+    SPS_DEAD_TRACES = 4 /* those of killed receivers, each component one */
 };
 
 /*
  * Checks a set, and counts what it holds. Answers what sps_check does, for every length of counts.
  *
  * A place of counts is eight bytes, the low one first; sps_count reads one. Of an accepted set the
- * receivers, shots, relation lines and traces go into places 0 to 3, as far as counts has them
- * whole: counts_len / 8 places, at most four. Every other byte stays, also the last ones that are
- * too few for a place and all from byte 32 on. A refusal writes nothing. 32 bytes take all four.
+ * receivers, shots, relation lines, traces and dead traces go into places 0 to 4, as far as counts
+ * has them whole: counts_len / 8 places, at most five. Every other byte stays, also the last ones
+ * that are too few for a place and all from byte 40 on. A refusal writes nothing. 40 bytes take all
+ * five.
  */
 uint64_t sps_counts(uint64_t medium, const uint8_t *r, size_t r_len, const uint8_t *s,
                     size_t s_len, const uint8_t *x, size_t x_len, uint8_t *counts,
                     size_t counts_len);
 
 /*
- * From a trace to its receiver. Answers R line * 16 + component, 0 where there is no such trace, or
- * a refusal, 1 to 20, 24, 25 or 29.
+ * From a trace to its receiver. Answers R line * 16 + component, 2^32 more where the receiver is
+ * killed, 0 where there is no such trace, or a refusal, 1 to 20, 24, 25 or 29.
  *
  * The tape is 6 columns of bytes 32 to 126 of which the first is no blank, the record is 0 to 9999,
  * the channel 1 to 9999. Anything else is refused with 20, before the set is looked at.
@@ -139,9 +146,9 @@ uint64_t sps_trace(uint64_t medium, const uint8_t *r, size_t r_len, const uint8_
                    size_t tape_len, uint64_t record, uint64_t channel);
 
 /*
- * The way back, from a line of R and a component to the channel. Answers the channel, 0 where there
- * is no such trace (also where the line is a header, a marker, an EOF record or beyond the file),
- * or a refusal, 1 to 20, 24, 25 or 29.
+ * The way back, from a line of R and a component to the channel. Answers the channel, of a killed
+ * receiver too, 0 where there is no such trace (also where the line is a header, a marker, an EOF
+ * record or beyond the file), or a refusal, 1 to 20, 24, 25 or 29.
  *
  * The tape and the record are as for sps_trace, the line is 1 to 9999, the component 1 to 9.
  */
@@ -154,10 +161,11 @@ uint64_t sps_channel(uint64_t medium, const uint8_t *r, size_t r_len, const uint
  * or a refusal, 1 to 21, 24, 25 or 29. The tape and the record are as for sps_trace.
  *
  * Place c-1 takes the R line and the component of channel c, or 0 and 0 where c is not covered, for
- * each c up to the answer. Later places stay, and an absent record writes nothing. A place of
- * components is a byte. A place of lines is two bytes, the low one first; an odd last byte is no
- * place and stays. Where either slice has fewer places than the highest channel it is 21, after the
- * set's own refusals. Lengths are in bytes: 19998 and 9999 are enough for every record.
+ * each c up to the answer; killed receivers stand as others do. Later places stay, and an absent
+ * record writes nothing. A place of components is a byte. A place of lines is two bytes, the low
+ * one first; an odd last byte is no place and stays. Where either slice has fewer places than the
+ * highest channel it is 21, after the set's own refusals. Lengths are in bytes: 19998 and 9999 are
+ * enough for every record.
  */
 uint64_t sps_spread(uint64_t medium, const uint8_t *r, size_t r_len, const uint8_t *s,
                     size_t s_len, const uint8_t *x, size_t x_len, const uint8_t *tape,
@@ -220,15 +228,20 @@ static inline uint64_t sps_count(const uint8_t *counts, size_t place)
     return count;
 }
 
-/* The parts of a trace that sps_trace answers: the line of R and the component. */
+/* The parts of a trace that sps_trace answers: the line of R, the component, and killed: 1 or 0. */
 static inline unsigned sps_trace_line(uint64_t trace)
 {
-    return (unsigned)(trace >> 4);
+    return (unsigned)(trace >> 4 & 268435455);
 }
 
 static inline unsigned sps_trace_component(uint64_t trace)
 {
     return (unsigned)(trace & 15);
+}
+
+static inline int sps_trace_killed(uint64_t trace)
+{
+    return (int)(trace >> 32 & 1);
 }
 
 /* The R line of a channel, from 1, in the lines that sps_spread has written. */

@@ -1,6 +1,6 @@
 /*
  * Every call and every inline function of sps.h, from C. The arguments are the folders of set A on
- * disc and on tape.
+ * disc and on tape, and of a set with a killed receiver and a killed shot.
  */
 #include "try.h"
 #include <string.h>
@@ -50,7 +50,7 @@ static void counts(struct set set, size_t len, uint64_t expected, size_t places,
 /* The check, and the counts in slices of each length, of which so many places are written. */
 static void answers(struct set set, uint64_t expected, size_t places, const uint8_t *held)
 {
-    static const size_t lengths[] = {0, 7, 8, 15, 16, 31, 32, 33, 40};
+    static const size_t lengths[] = {0, 7, 8, 15, 16, 31, 32, 33, 39, 40, 41, 47, 48};
     size_t at;
     SAME(sps_check(FILES(set)), expected);
     for (at = 0; at < sizeof lengths / sizeof *lengths; at++) {
@@ -65,11 +65,11 @@ static void refused(struct set set, uint64_t expected)
     answers(set, expected, 0, NULL);
 }
 
-/* Set A has 3 receivers, 1 shot, 1 relation line and 3 traces. */
+/* Set A has 3 receivers, 1 shot, 1 relation line and 3 traces, none of them dead. */
 static void accepted(struct set set)
 {
-    static const uint8_t held[] = {3, 1, 1, 3};
-    answers(set, 3, 4, held);
+    static const uint8_t held[] = {3, 1, 1, 3, 0};
+    answers(set, 3, 5, held);
 }
 
 /* The lookup and the way back. */
@@ -80,6 +80,7 @@ static void lookups(struct set set)
     SAME(sps_is_refused(trace), 0);
     SAME(sps_trace_line(trace), SECOND);
     SAME(sps_trace_component(trace), 1);
+    SAME(sps_trace_killed(trace), 0);
     SAME(sps_channel(FILES(set), tape, 6, 11, SECOND, 1), 2);
     SAME(sps_trace(FILES(set), tape, 6, 11, 4), 0);
     SAME(sps_trace(FILES(set), tape, 6, 12, 2), 0);
@@ -241,6 +242,39 @@ static void refused_by_all(struct set set, uint64_t expected)
     spread(set, 11, 6, 3, expected, 0);
 }
 
+/*
+ * Three components of each receiver, of which the second is killed: three of nine traces are dead.
+ * Killed shots are counted, and may not be named.
+ */
+static void killed(struct set set)
+{
+    static const uint8_t held[] = {3, 2, 1, 9, 3}, lines[] = {FIRST, SECOND, THIRD};
+    uint8_t spread_lines[18], components[9];
+    unsigned channel;
+    answers(set, 9, 5, held);
+    SAME(sps_spread(FILES(set), tape, 6, 11, spread_lines, 18, components, 9), 9);
+    for (channel = 1; channel <= 9; channel++) {
+        unsigned line = lines[(channel - 1) / 3], component = (channel - 1) % 3 + 1;
+        uint64_t trace = sps_trace(FILES(set), tape, 6, 11, channel);
+        SAME(trace, (line == SECOND) * (UINT64_C(1) << 32) + line * 16 + component);
+        SAME(sps_is_refused(trace), 0);
+        SAME(sps_trace_line(trace), line);
+        SAME(sps_trace_component(trace), component);
+        SAME(sps_trace_killed(trace), line == SECOND);
+        SAME(sps_channel(FILES(set), tape, 6, 11, line, component), channel);
+        SAME(sps_spread_line(spread_lines, channel), line);
+        SAME(components[channel - 1], component);
+    }
+    put(set.s, FIRST, 27, "KL");
+    refused_by_all(set, refusal(SPS_NO_SHOT, SPS_X, FIRST, 14));
+    put(set.s, FIRST, 27, "V1");
+    put(set.s, SECOND, 27, "V1");
+    refused_by_all(set, refusal(SPS_SHOT_NOT_NAMED, SPS_S, SECOND, 1));
+    put(set.s, SECOND, 27, "KL");
+    put(set.r, SECOND, 27, "G1");
+    SAME(sps_trace(FILES(set), tape, 6, 11, 5), SECOND * 16 + 2);
+}
+
 /* Tapes that are cut, end nowhere or go on, and bytes that no tape takes. */
 static void tapes(struct set set)
 {
@@ -304,6 +338,10 @@ static void parts(void)
     SAME(sps_count(number, 1), UINT64_MAX - 1);
     SAME(sps_trace_line(9999 * 16 + 9), 9999);
     SAME(sps_trace_component(9999 * 16 + 9), 9);
+    SAME(sps_trace_killed(9999 * 16 + 9), 0);
+    SAME(sps_trace_line((UINT64_C(1) << 32) + 9999 * 16 + 9), 9999);
+    SAME(sps_trace_component((UINT64_C(1) << 32) + 9999 * 16 + 9), 9);
+    SAME(sps_trace_killed((UINT64_C(1) << 32) + 9999 * 16 + 9), 1);
 }
 
 /* What is the same on both media. */
@@ -319,20 +357,23 @@ static void both(struct set set)
 
 int main(int count, char **words)
 {
-    struct set disc, on_tape;
-    if (count != 3) {
-        fprintf(stderr, "usage: %s DISC TAPE\n", words[0]);
+    struct set disc, on_tape, with_killed;
+    if (count != 4) {
+        fprintf(stderr, "usage: %s DISC TAPE KILLED\n", words[0]);
         return 2;
     }
     disc = read_set(SPS_DISC, words[1]);
     on_tape = read_set(SPS_TAPE, words[2]);
+    with_killed = read_set(SPS_DISC, words[3]);
     both(disc);
     both(on_tape);
     nothing(disc);
     edits(disc);
     tapes(on_tape);
+    killed(with_killed);
     parts();
     free_set(disc);
     free_set(on_tape);
+    free_set(with_killed);
     return failures != 0;
 }

@@ -1,4 +1,5 @@
-// Every call of sps.h from C++, on set A. The arguments are its folders on disc and on tape.
+// Every call of sps.h from C++, on set A. The arguments are its folders on disc and on tape, and
+// that of a set with a killed receiver and a killed shot.
 #include "sps.h"
 #include <cstddef>
 #include <cstdint>
@@ -79,9 +80,9 @@ Set read_set(std::uint64_t medium, const std::string &folder)
 // The counts of set A in so many bytes, as far as there are whole places; all else stays.
 Bytes counted(std::size_t length)
 {
-    const std::uint8_t counts[] = {3, 1, 1, 3};
+    const std::uint8_t counts[] = {3, 1, 1, 3, 0};
     Bytes bytes(length, 0xAA);
-    for (std::size_t at = 0; at < length / 8 * 8 && at < 32; ++at)
+    for (std::size_t at = 0; at < length / 8 * 8 && at < 40; ++at)
         bytes[at] = at % 8 == 0 ? counts[at / 8] : 0;
     return bytes;
 }
@@ -93,15 +94,16 @@ void answers(const Set &set)
     const Bytes written = {FIRST, 0, SECOND, 0, THIRD, 0, 0xEE, 0xEE, 0xEE}, ones = {1, 1, 1, 0xEE};
 
     same("the check", set.check(), 3u);
-    for (std::size_t length : {0, 7, 8, 15, 16, 31, 32, 33, 40}) {
+    for (std::size_t length : {0, 7, 8, 15, 16, 31, 32, 33, 39, 40, 41, 48}) {
         Bytes counts(length, 0xAA);
         same("the answer with counts", set.counts(counts), 3u);
         same("the counts", counts, counted(length));
     }
-    same("a count", sps_count(counted(32).data(), SPS_TRACES), 3u);
+    same("a count", sps_count(counted(40).data(), SPS_TRACES), 3u);
     const std::uint64_t trace = set.trace(tape, 11, 3);
     same("the R line", sps_trace_line(trace), THIRD);
     same("the component", sps_trace_component(trace), 1u);
+    same("no mark", sps_trace_killed(trace), 0);
     same("the way back", set.channel(tape, 11, THIRD, 1), 3u);
     same("no trace", set.trace(tape, 11, 4), 0u);
     same("the highest channel", set.spread(tape, 11, lines, components), 3u);
@@ -132,6 +134,24 @@ void refusals(Set set, unsigned last)
     same("the line of a code", set.table_line(SPS_RECEIVER_CODE, {'G', '1'}), answer);
 }
 
+// Three components of each receiver, of which the second is killed.
+void killed(const Set &set)
+{
+    const Bytes tape = {'1', '0', '0', ' ', ' ', ' '};
+    Bytes counts(40, 0xAA);
+    same("the traces", set.counts(counts), 9u);
+    same("the shots", sps_count(counts.data(), SPS_SHOTS), 2u);
+    same("the dead traces", sps_count(counts.data(), SPS_DEAD_TRACES), 3u);
+    for (std::uint64_t channel : {1, 4, 6, 9}) {
+        const std::uint64_t trace = set.trace(tape, 11, channel);
+        const bool dead = channel == 4 || channel == 6;
+        same("the mark", sps_trace_killed(trace) == 1, dead);
+        same("the line without the mark", sps_trace_line(trace), FIRST + (channel - 1) / 3);
+        same("the way back from it",
+             set.channel(tape, 11, sps_trace_line(trace), sps_trace_component(trace)), channel);
+    }
+}
+
 // Files of no byte, and a medium that is neither.
 void media(Set set)
 {
@@ -151,8 +171,8 @@ void media(Set set)
 
 int main(int count, char **words)
 {
-    if (count != 3) {
-        std::cerr << "usage: " << words[0] << " DISC TAPE\n";
+    if (count != 4) {
+        std::cerr << "usage: " << words[0] << " DISC TAPE KILLED\n";
         return 2;
     }
     const Set disc = read_set(SPS_DISC, words[1]), tape = read_set(SPS_TAPE, words[2]);
@@ -161,5 +181,6 @@ int main(int count, char **words)
     refusals(disc, THIRD);
     refusals(tape, THIRD + 1);
     media(disc);
+    killed(read_set(SPS_DISC, words[3]));
     return failures != 0;
 }

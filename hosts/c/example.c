@@ -19,7 +19,7 @@ static size_t read_file(const char *name, uint8_t *to)
 int main(int count, char **names)
 {
     uint64_t answer;
-    uint8_t counts[32];
+    uint8_t counts[40];
     size_t r_len, s_len, x_len;
     if (count != 4)
         return 2;
@@ -33,9 +33,12 @@ int main(int count, char **names)
                sps_refusal_file(answer), sps_refusal_line(answer), sps_refusal_column(answer));
         return 1;
     }
-    printf("%lu receivers, %lu traces\n", (unsigned long)sps_count(counts, SPS_RECEIVERS),
-           (unsigned long)sps_count(counts, SPS_TRACES));
+    printf("%lu receivers, %lu traces, %lu dead\n",
+           (unsigned long)sps_count(counts, SPS_RECEIVERS),
+           (unsigned long)sps_count(counts, SPS_TRACES),
+           (unsigned long)sps_count(counts, SPS_DEAD_TRACES));
     answer = sps_trace(SPS_DISC, r, r_len, s, s_len, x, x_len, (const uint8_t *)"100   ", 6, 11, 2);
-    printf("R line %u, component %u\n", sps_trace_line(answer), sps_trace_component(answer));
+    printf("R line %u, component %u%s\n", sps_trace_line(answer), sps_trace_component(answer),
+           sps_trace_killed(answer) ? ", killed" : "");
     return 0;
 }

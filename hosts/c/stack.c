@@ -23,7 +23,7 @@ struct answers {
 static void *ask(void *lent)
 {
     struct answers *to = (struct answers *)lent;
-    uint8_t counts[32];
+    uint8_t counts[40];
     to->check = sps_check(FILES(to->set));
     to->counts = sps_counts(FILES(to->set), counts, sizeof counts);
     to->trace = sps_trace(FILES(to->set), tape, 6, to->record, 200);

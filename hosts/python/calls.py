@@ -1,6 +1,7 @@
 """Every call of libsps from Python, through ctypes.
 
-The arguments are a shared object made of the archive and the folders of set A on disc and on tape.
+The arguments are a shared object made of the archive, the folders of set A on disc and on tape, and
+that of a set with a killed receiver and a killed shot.
 """
 
 import ctypes
@@ -52,10 +53,10 @@ def refusal(number, file, line, column):
 def answers(sps, set_a):
     """What set A is answered."""
     record = [b"100   ", 6, 11]
-    counts = (ctypes.c_uint8 * 33)(*[170] * 33)
+    counts = (ctypes.c_uint8 * 41)(*[170] * 41)
     assert sps.sps_check(*set_a) == 3
-    assert sps.sps_counts(*set_a, counts, 33) == 3
-    assert bytes(counts) == struct.pack("<4QB", 3, 1, 1, 3, 170)
+    assert sps.sps_counts(*set_a, counts, 41) == 3
+    assert bytes(counts) == struct.pack("<5QB", 3, 1, 1, 3, 0, 170)
     assert sps.sps_trace(*set_a, *record, 2) == SECOND * 16 + 1
     assert sps.sps_channel(*set_a, *record, SECOND, 1) == 2
     assert sps.sps_trace(*set_a, *record, 4) == 0
@@ -71,16 +72,38 @@ def answers(sps, set_a):
     assert bytes(components) == bytes([1, 1, 1])
 
 
+def killed(sps, asked):
+    """Three components of each receiver, of which the second is killed."""
+    record = [b"100   ", 6, 11]
+    counts = (ctypes.c_uint8 * 40)()
+    assert sps.sps_check(*asked) == 9
+    assert sps.sps_counts(*asked, counts, 40) == 9
+    assert bytes(counts) == struct.pack("<5Q", 3, 2, 1, 9, 3)
+    short = (ctypes.c_uint8 * 39)(*[170] * 39)
+    assert sps.sps_counts(*asked, short, 39) == 9
+    assert bytes(short) == struct.pack("<4Q", 3, 2, 1, 9) + bytes([170] * 7)
+    for channel in range(1, 10):
+        line, component = FIRST + (channel - 1) // 3, (channel - 1) % 3 + 1
+        mark = 2**32 if line == SECOND else 0
+        assert sps.sps_trace(*asked, *record, channel) == mark + line * 16 + component
+        assert sps.sps_channel(*asked, *record, line, component) == channel
+    lines = (ctypes.c_uint8 * 18)()
+    components = (ctypes.c_uint8 * 9)()
+    assert sps.sps_spread(*asked, *record, lines, 18, components, 9) == 9
+    assert bytes(lines) == bytes([FIRST, 0] * 3 + [SECOND, 0] * 3 + [THIRD, 0] * 3)
+    assert bytes(components) == bytes([1, 2, 3] * 3)
+
+
 def refusals(sps, set_a, last):
     """What is refused, and what that leaves; the last line of R is given."""
-    counts = (ctypes.c_uint8 * 32)(*[170] * 32)
+    counts = (ctypes.c_uint8 * 40)(*[170] * 40)
     medium, r, r_len = set_a[:3]
     cut = [medium, r, r_len - 1] + set_a[3:]
-    assert sps.sps_counts(*cut, counts, 32) == refusal(1, 1, last, 0)
+    assert sps.sps_counts(*cut, counts, 40) == refusal(1, 1, last, 0)
     for other in (0, 3, 2**32 + 1, 2**64 - 1):
-        assert sps.sps_counts(other, *set_a[1:], counts, 32) == refusal(20, 0, 0, 0)
+        assert sps.sps_counts(other, *set_a[1:], counts, 40) == refusal(20, 0, 0, 0)
         assert sps.sps_check(other, *cut[1:]) == refusal(20, 0, 0, 0)
-    assert bytes(counts) == bytes([170] * 32)
+    assert bytes(counts) == bytes([170] * 40)
     assert sps.sps_check(DISC, None, 0, None, 0, None, 0) == refusal(7, 1, 1, 0)
     assert sps.sps_check(TAPE, None, 0, None, 0, None, 0) == refusal(29, 1, 1, 0)
     assert sps.sps_trace(*set_a, b"100", 3, 11, 2) == refusal(20, 0, 0, 0)
@@ -99,11 +122,12 @@ def refusals(sps, set_a, last):
 
 
 def main():
-    shared, disc, tape = sys.argv[1:]
+    shared, disc, tape, with_killed = sys.argv[1:]
     sps = library(shared)
     for set_a, last in ((files(DISC, disc), THIRD), (files(TAPE, tape), THIRD + 1)):
         answers(sps, set_a)
         refusals(sps, set_a, last)
+    killed(sps, files(DISC, with_killed))
 
 
 if __name__ == "__main__":

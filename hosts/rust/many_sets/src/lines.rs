@@ -59,11 +59,16 @@ pub fn codes(file: File) -> &'static [u8] {
     }
 }
 
-/// A receiver, or else a shot.
+/// The code of a point that is not killed.
+pub fn live(random: &mut Random, file: File) -> String {
+    [random.pick(codes(file)), random.pick(b"123456789")].map(char::from).iter().collect()
+}
+
+/// A receiver, or else a shot; at times a killed one.
 pub fn point(random: &mut Random, file: File) -> Line {
     let code = match random.below(10) {
         0 => "KL".to_owned(),
-        _ => [random.pick(codes(file)), random.pick(b"123456789")].map(char::from).iter().collect(),
+        _ => live(random, file),
     };
     let number = whole(random, 8, 0..=99_999_999);
     let line = common(random, file, &code).at(18, &number);

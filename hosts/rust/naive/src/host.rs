@@ -40,7 +40,8 @@ impl HostNumber for Counts {
 
 impl HostNumber for Trace {
     fn host_number(&self) -> u64 {
-        u64::from(self.r_line) * 16 + u64::from(self.component)
+        let killed = u64::from(self.killed) << 32;
+        killed + u64::from(self.r_line) * 16 + u64::from(self.component)
     }
 }
 

@@ -76,13 +76,17 @@ pub struct Counts {
     pub shots: u64,
     pub relations: u64,
     pub traces: u64,
+    /// Those traces whose receivers are killed.
+    pub dead_traces: u64,
 }
 
-/// Where a trace comes from: the line of its receiver in R, and its component.
+/// Where a trace comes from: the line of its receiver in R, its component, and whether the
+/// receiver is killed.
 #[derive(Clone, Copy, Debug, PartialEq, Eq)]
 pub struct Trace {
     pub r_line: u16,
     pub component: u8,
+    pub killed: bool,
 }
 
 impl Fault {

@@ -1,4 +1,4 @@
-//! A line of R or S: a point, or a marker (PM) that is none.
+//! A line of R or S: a live point, a killed one (KL), or a marker (PM) that is none.
 
 use crate::fields::{field, Field};
 use crate::{Fault, File, Line};
@@ -39,20 +39,45 @@ pub struct Marker {
     pub elevation: i64,
 }
 
+/// What a line of R or S is.
 #[derive(Clone, Copy, Debug, PartialEq, Eq)]
 pub enum PointLine {
-    Point(Point),
+    Live(Point),
+    /// A point that is there and gives nothing: no relation line names a killed shot, and
+    /// the traces of a killed receiver are dead.
+    Killed(Point),
     Marker(Marker),
+}
+
+impl PointLine {
+    /// The point, killed or not.
+    pub fn point(&self) -> Option<&Point> {
+        match self {
+            PointLine::Live(point) | PointLine::Killed(point) => Some(point),
+            PointLine::Marker(_) => None,
+        }
+    }
+
+    /// The point that is not killed.
+    pub fn live(&self) -> Option<&Point> {
+        match self {
+            PointLine::Live(point) => Some(point),
+            PointLine::Killed(_) | PointLine::Marker(_) => None,
+        }
+    }
 }
 
 /// Reads a line field by field from the left. PM decides first that it is a marker.
 pub fn read(file: File, line: &Line) -> Result<PointLine, Fault> {
     let at = |first, last| field(line, first, last);
     if at(27, 28).is(b"PM") {
-        marker(file, at).map(PointLine::Marker)
-    } else {
-        point(file, at).map(PointLine::Point)
+        return marker(file, at).map(PointLine::Marker);
     }
+    let point = point(file, at)?;
+    Ok(match &point.code {
+        b"KL" => PointLine::Killed(point),
+        _ => PointLine::Live(point),
+    })
 }
 
 fn marker<'a>(file: File, at: impl Fn(u8, u8) -> Field<'a>) -> Result<Marker, Fault> {

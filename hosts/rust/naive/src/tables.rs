@@ -4,7 +4,7 @@
 use crate::codes::is_numbered;
 use crate::fields::field;
 use crate::form::Form;
-use crate::set::points;
+use crate::set::live;
 use crate::traces::placeless;
 use crate::{refusal, File, Line, PointLine, Refusal, Relation};
 use std::collections::HashMap;
@@ -105,8 +105,8 @@ impl Tables {
 
     /// 25 over R or S; a killed point uses no code.
     fn name_points(&self, file: File, form: &Form<PointLine>, kind: Kind) -> Result<(), Refusal> {
-        let unnamed = |code| code != *b"KL" && self.line(Code(kind, code)).is_none();
-        match points(form).find(|(_, point)| unnamed(point.code)) {
+        let unnamed = |code| self.line(Code(kind, code)).is_none();
+        match live(form).find(|(_, point)| unnamed(point.code)) {
             Some((line, _)) => Err(refusal(25, file, line, 27)),
             None => Ok(()),
         }

@@ -1,6 +1,6 @@
 //! Questions of an accepted set: the lookup, the way back, the spread table.
 
-use crate::set::Set;
+use crate::set::{Set, Station};
 use crate::{Refusal, Relation, Trace};
 use std::ops::RangeInclusive;
 
@@ -41,8 +41,8 @@ impl Set {
     /// The receiver that a channel of one relation line leads to.
     fn receiver_of(&self, relation: &Relation, channel: u16) -> Option<Trace> {
         let (receiver, component) = relation.leads_to(channel)?;
-        let r_line = *self.r_lines.get(&receiver)? as u16;
-        Some(Trace { r_line, component })
+        let Station { line, killed } = *self.receivers.get(&receiver)?;
+        Some(Trace { r_line: line as u16, component, killed })
     }
 
     pub fn trace(&self, asked: Asked, channel: u16) -> Option<Trace> {
@@ -50,7 +50,8 @@ impl Set {
     }
 
     pub fn channel(&self, asked: Asked, r_line: u16, component: u16) -> Option<u16> {
-        let (receiver, _) = self.r_lines.iter().find(|(_, &line)| line == u32::from(r_line))?;
+        let r_line = u32::from(r_line);
+        let (receiver, _) = self.receivers.iter().find(|(_, station)| station.line == r_line)?;
         self.lines_of(asked).find_map(|relation| relation.channel_of(*receiver, component as u8))
     }
 

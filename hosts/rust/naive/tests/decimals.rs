@@ -17,7 +17,7 @@ fn read((column, width, value): Field, text: &str) -> Result<i64, Fault> {
     let text = format!("{text:>width$}");
     assert_eq!(text.len(), width, "`{text}`");
     let of = |file, line: Line| match read_point(file, &line.at(column, &text).0)? {
-        PointLine::Point(point) => Ok(value(point)),
+        PointLine::Live(point) => Ok(value(point)),
         other => panic!("{other:?}"),
     };
     let [in_r, in_s] = [of(File::R, receiver(101)), of(File::S, shot(501))];

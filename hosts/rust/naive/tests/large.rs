@@ -10,10 +10,11 @@ fn two_million_traces() {
     let set = large::two_million_traces();
     let (disc, files) = (Medium::Disc, set.files());
     let (last, most) = (u64::from(large::most()) - 1, u64::from(large::most()));
-    let counts = Counts { receivers: most, shots: most, relations: most, traces: 200 * most };
+    let (receivers, shots, relations, traces) = (most, most, most, 200 * most);
+    let counts = Counts { receivers, shots, relations, traces, dead_traces: 0 };
     assert_eq!(check(disc, files), Ok(counts));
     let tape = b"100   ";
-    let found = Some(Trace { r_line: 9_999, component: 1 });
+    let found = Some(Trace { r_line: 9_999, component: 1, killed: false });
     assert_eq!(trace(disc, files, tape, last, 200), Ok(found));
     assert_eq!(channel(disc, files, tape, last, 9_999, 1), Ok(Some(200)));
     let (mut lines, mut components) = ([0; 200], [0; 200]);

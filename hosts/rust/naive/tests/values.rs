@@ -17,7 +17,7 @@ fn line_of(fields: &[&str]) -> Line {
 
 fn point(file: File, line: Line) -> Point {
     match read_point(file, &line.0) {
-        Ok(PointLine::Point(point)) => point,
+        Ok(PointLine::Live(point)) => point,
         other => panic!("{other:?}"),
     }
 }
@@ -42,6 +42,14 @@ fn receiver_101() -> Point {
 #[test]
 fn a_receiver_of_set_a() {
     assert_eq!(point(File::R, receiver(101)), receiver_101());
+}
+
+/// KL makes it a killed one, and every value stays.
+#[test]
+fn a_killed_receiver() {
+    let line = receiver(101).code("KL");
+    let expected = Point { code: *b"KL", ..receiver_101() };
+    assert_eq!(read_point(File::R, &line.0), Ok(PointLine::Killed(expected)));
 }
 
 #[test]

@@ -41,6 +41,7 @@ pub enum Answer {
         shots: u64,
         relations: u64,
         traces: u64,
+        dead_traces: u64,
     },
     /// The file is 0 where there is no place, otherwise R 1, S 2, X 3. Spread
     /// slices stay as they are.
@@ -53,6 +54,7 @@ pub enum Answer {
     Trace {
         r_line: u16,
         component: u8,
+        killed: bool,
     },
     Channel(u16),
     NoTrace,
@@ -106,7 +108,9 @@ impl Answer {
                 let place = u64::from(line) * 256 + u64::from(column);
                 u64::from(number) * (1 << 40) + u64::from(file) * (1 << 32) + place
             }
-            Answer::Trace { r_line, component } => u64::from(r_line) * 16 + u64::from(component),
+            Answer::Trace { r_line, component, killed } => {
+                u64::from(r_line) * 16 + u64::from(component) + u64::from(killed) * (1 << 32)
+            }
             Answer::Channel(channel) => u64::from(channel),
             Answer::TableLine(line) => u64::from(line),
             Answer::NoTrace | Answer::NotNamed => 0,
@@ -117,8 +121,8 @@ impl Answer {
     /// The program's line, with its line feed; it only checks sets.
     pub fn verdict(&self) -> Option<String> {
         match *self {
-            Answer::Accepted { receivers, shots, relations, traces } => {
-                Some(format!("ACCEPTED {receivers} {shots} {relations} {traces}\n"))
+            Answer::Accepted { receivers, shots, relations, traces, dead_traces } => {
+                Some(format!("ACCEPTED {receivers} {shots} {relations} {traces} {dead_traces}\n"))
             }
             Answer::Refused { number, file, line, column } => {
                 let file = File::ALL.into_iter().find(|&of| of as u8 == file)?;

@@ -1,9 +1,9 @@
-//! Sets of the paper's table, one in another spelling, one laid out backwards and one with more
-//! codes, as folders to look at, with the program's line.
+//! Sets of the paper's table, one in another spelling, one laid out backwards, one with more
+//! codes and one with killed points, as folders to look at, with the program's line.
 
 use crate::place::{below, first};
-use crate::table::write::{accepted, as_a, refused};
-use crate::table::{backwards, code_tables, decimals, paper};
+use crate::table::write::{accepted, as_a, refused, with_dead};
+use crate::table::{backwards, code_tables, decimals, killed, paper};
 use crate::File::{R, S, X};
 use crate::{headers_only, set_a, Answer, Set};
 
@@ -39,6 +39,7 @@ pub fn examples() -> Vec<Example> {
         example("no_points", decimals::no_points(), as_a()),
         example("backwards", backwards::backwards(), as_a()),
         example("code_tables", code_tables::code_tables(), accepted(3, 2, 2, 6)),
+        example("killed", killed::killed(), with_dead([3, 2, 1, 9], 3)),
         example("three_components", paper::three_components(), accepted(3, 1, 1, 9)),
         example("headers_only", headers_only(), accepted(0, 0, 0, 0)),
         example("moved_name", paper::moved_name(), refused(5, X, first(), 14)),

@@ -19,6 +19,7 @@ fn main() -> Result<(), Box<dyn Error>> {
             println!("{accepted}");
             println!("{} receivers, {} shots", accepted.receivers, accepted.shots);
             println!("{} relation lines, {} traces", accepted.relations, accepted.traces);
+            println!("{} dead traces", accepted.dead_traces);
         }
         Err(refusal) => {
             println!("{refusal}");

@@ -20,7 +20,8 @@ fn main() -> Result<(), Box<dyn Error>> {
         println!("channel {channel}: no trace");
         return Ok(());
     };
-    println!("channel {channel}: R line {}, component {}", trace.r_line, trace.component);
+    let killed = if trace.killed { ", killed" } else { "" };
+    println!("channel {channel}: R line {}, component {}{killed}", trace.r_line, trace.component);
 
     let back = record.receiver(trace.r_line, trace.component)?;
     println!("and back: channel {}", back.ok_or("the way back is lost")?);

@@ -10,11 +10,11 @@
 //! # let read = |name| std::fs::read(format!("../../../examples/set_a/{name}"));
 //! # let (r, s, x) = (read("set.r01")?, read("set.s01")?, read("set.x01")?);
 //! let set = sps::Set::new(sps::Medium::Disc, &r, &s, &x);
-//! assert_eq!(set.check()?.to_string(), "ACCEPTED 3 1 1 3");
+//! assert_eq!(set.check()?.to_string(), "ACCEPTED 3 1 1 3 0");
 //!
 //! let record = set.record(b"100   ", 11);
 //! let trace = record.channel(2)?.expect("a trace");
-//! assert_eq!((trace.r_line, trace.component), (26, 1));
+//! assert_eq!((trace.r_line, trace.component, trace.killed), (26, 1, false));
 //! assert_eq!(record.receiver(trace.r_line, trace.component)?, Some(2));
 //! # Ok::<(), Box<dyn std::error::Error>>(())
 //! ```

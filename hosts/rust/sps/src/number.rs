@@ -38,11 +38,11 @@ pub enum Number {
     ShotEarlier,
     /// 12: a shot repeats an earlier one.
     ShotRepeated,
-    /// 13: no shot is the relation line's source.
+    /// 13: no shot is the relation line's source, or a killed one is.
     NoShot,
     /// 14: its shot stands in S before that of the previous relation line.
     ShotOrder,
-    /// 15: no relation line names a shot.
+    /// 15: no relation line names a shot that is not killed.
     ShotNotNamed,
     /// 16: the lines of a record do not stand together, or differ.
     Record,
@@ -182,7 +182,10 @@ impl Number {
             }
             ShotEarlier => "a shot is earlier, by day then time, than the shot line before it",
             ShotRepeated => "a shot repeats an earlier shot's line name, point number and index",
-            NoShot => "no shot has the source line name, point and index of the relation line",
+            NoShot => {
+                "no shot has the source line name, point and index of the relation line, or the \
+                 shot that has them is killed"
+            }
             ShotOrder => {
                 "the shot of the relation line stands in S before that of the previous relation line"
             }

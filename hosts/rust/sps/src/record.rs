@@ -24,8 +24,12 @@ pub struct Record<'a> {
 /// Where a trace comes from.
 ///
 /// ```
-/// let trace = sps::Trace { r_line: 26, component: 1 };
-/// assert_eq!(format!("{trace:?}"), "Trace { r_line: 26, component: 1 }");
+/// # let read = |name| std::fs::read(format!("../../../examples/killed/{name}"));
+/// # let (r, s, x) = (read("set.r01")?, read("set.s01")?, read("set.x01")?);
+/// let record = sps::Set::new(sps::Medium::Disc, &r, &s, &x).record(b"100   ", 11);
+/// let dead = |channel| record.channel(channel).map(|trace| trace.is_some_and(|of| of.killed));
+/// assert_eq!([dead(3)?, dead(4)?, dead(7)?], [false, true, false]);
+/// # Ok::<(), Box<dyn std::error::Error>>(())
 /// ```
 #[derive(Clone, Copy, Debug, PartialEq, Eq, Hash)]
 pub struct Trace {
@@ -33,6 +37,16 @@ pub struct Trace {
     pub r_line: u64,
     /// Its component, from 1.
     pub component: u64,
+    /// Whether its receiver is killed, so that the trace is dead.
+    pub killed: bool,
+}
+
+impl Trace {
+    /// The trace `R line * 16 + component`, and 2^32 more where the receiver is killed.
+    fn of(packed: u64) -> Trace {
+        let (r_line, component) = (packed >> 4 & 0xFFF_FFFF, packed & 0xF);
+        Trace { r_line, component, killed: packed >> 32 & 1 == 1 }
+    }
 }
 
 impl<'a> Record<'a> {
@@ -46,17 +60,19 @@ impl<'a> Record<'a> {
     /// # let read = |name| std::fs::read(format!("../../../examples/three_components/{name}"));
     /// # let (r, s, x) = (read("set.r01")?, read("set.s01")?, read("set.x01")?);
     /// let record = sps::Set::new(sps::Medium::Disc, &r, &s, &x).record(b"100   ", 11);
-    /// assert_eq!(record.channel(6)?, Some(sps::Trace { r_line: 26, component: 3 }));
+    /// let trace = sps::Trace { r_line: 26, component: 3, killed: false };
+    /// assert_eq!(record.channel(6)?, Some(trace));
     /// assert_eq!(record.channel(10)?, None);
     /// # Ok::<(), Box<dyn std::error::Error>>(())
     /// ```
     pub fn channel(&self, channel: u64) -> Result<Option<Trace>, Refusal> {
         let packed = answer(archive::trace(self.files, self.tape, self.record, channel))?;
-        Ok((packed != 0).then_some(Trace { r_line: packed >> 4, component: packed & 15 }))
+        Ok((packed != 0).then(|| Trace::of(packed)))
     }
 
-    /// The channel that leads to a line of R and a component; `None` is no trace,
-    /// also where the line is a header, a marker, an EOF record or beyond the file.
+    /// The channel that leads to a line of R and a component, also of a killed receiver;
+    /// `None` is no trace, also where the line is a header, a marker, an EOF record or
+    /// beyond the file.
     ///
     /// ```
     /// # let read = |name| std::fs::read(format!("../../../examples/three_components/{name}"));
@@ -74,8 +90,9 @@ impl<'a> Record<'a> {
 
     /// The spread table: place c-1 takes the R line and the component of channel c,
     /// or 0 and 0 where it is not covered, up to the highest covered channel, which
-    /// is the answer. Later places stay. An absent record answers 0 and writes
-    /// nothing, and so does a refusal, also that of a slice too short (21).
+    /// is the answer. Later places stay. Killed receivers stand as others do. An absent
+    /// record answers 0 and writes nothing, and so does a refusal, also that of a slice too
+    /// short (21).
     ///
     /// ```
     /// # let read = |name| std::fs::read(format!("../../../examples/set_a/{name}"));

@@ -26,19 +26,21 @@ pub struct Set<'a> {
 ///
 /// ```
 /// # use sps::Accepted;
-/// let accepted = Accepted { receivers: 3, shots: 1, relations: 1, traces: 3 };
-/// assert_eq!(accepted.to_string(), "ACCEPTED 3 1 1 3");
+/// let accepted = Accepted { receivers: 3, shots: 1, relations: 1, traces: 9, dead_traces: 3 };
+/// assert_eq!(accepted.to_string(), "ACCEPTED 3 1 1 9 3");
 /// ```
 #[derive(Clone, Copy, Debug, PartialEq, Eq, Hash)]
 pub struct Accepted {
-    /// Lines of R that are receivers.
+    /// Lines of R that are receivers, killed or not.
     pub receivers: u64,
-    /// Lines of S that are shots.
+    /// Lines of S that are shots, killed or not.
     pub shots: u64,
     /// Relation lines.
     pub relations: u64,
     /// Channels of all relation lines.
     pub traces: u64,
+    /// Those of them that lead to killed receivers.
+    pub dead_traces: u64,
 }
 
 impl<'a> Set<'a> {
@@ -65,10 +67,10 @@ impl<'a> Set<'a> {
     /// # Ok::<(), Box<dyn std::error::Error>>(())
     /// ```
     pub fn check(&self) -> Result<Accepted, Refusal> {
-        let mut counts = [[0; 8]; 4];
+        let mut counts = [[0; 8]; 5];
         answer(archive::counts(self.files, counts.as_flattened_mut()))?;
-        let [receivers, shots, relations, traces] = counts.map(u64::from_le_bytes);
-        Ok(Accepted { receivers, shots, relations, traces })
+        let [receivers, shots, relations, traces, dead_traces] = counts.map(u64::from_le_bytes);
+        Ok(Accepted { receivers, shots, relations, traces, dead_traces })
     }
 
     /// Checks the set, and answers its number of traces alone.
@@ -122,7 +124,7 @@ impl<'a> Set<'a> {
 
 impl fmt::Display for Accepted {
     fn fmt(&self, f: &mut fmt::Formatter) -> fmt::Result {
-        let Accepted { receivers, shots, relations, traces } = self;
-        write!(f, "ACCEPTED {receivers} {shots} {relations} {traces}")
+        let Accepted { receivers, shots, relations, traces, dead_traces } = self;
+        write!(f, "ACCEPTED {receivers} {shots} {relations} {traces} {dead_traces}")
     }
 }

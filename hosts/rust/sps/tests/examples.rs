@@ -17,7 +17,8 @@ fn printed(example: &str, folder: &str, words: &[&str], well: bool) -> String {
 
 #[test]
 fn check() {
-    let accepted = "ACCEPTED 3 1 1 3\n3 receivers, 1 shots\n1 relation lines, 3 traces\n";
+    let accepted = "ACCEPTED 3 1 1 3 0\n3 receivers, 1 shots\n1 relation lines, 3 traces\n\
+                    0 dead traces\n";
     assert_eq!(printed("check", "set_a", &[], true), accepted);
     assert_eq!(printed("check", "set_a_tape", &["--tape"], true), accepted);
     let third = below(3);
@@ -35,6 +36,8 @@ fn follow() {
     let there_and_back = format!("channel 6: R line {second}, component 3\nand back: channel 6\n");
     assert_eq!(printed("follow", "three_components", &["6"], true), there_and_back);
     assert_eq!(printed("follow", "three_components", &["10"], true), "channel 10: no trace\n");
+    let dead = format!("channel 6: R line {second}, component 3, killed\nand back: channel 6\n");
+    assert_eq!(printed("follow", "killed", &["6"], true), dead);
     assert_eq!(printed("follow", "odd_channel", &["1"], false), "");
 }
 

@@ -26,6 +26,11 @@ fn set_a_tape() -> PathBuf {
     root().join("examples/set_a_tape")
 }
 
+/// Three components of each receiver, with a killed one, and a killed shot.
+fn killed() -> PathBuf {
+    root().join("examples/killed")
+}
+
 /// A place below cargo's directory for tests.
 fn place(name: &str) -> PathBuf {
     let folder = Path::new(env!("CARGO_TARGET_TMPDIR")).join("hosts");
@@ -78,15 +83,24 @@ fn compiled(compiler: &str, standard: &str, source: &str, name: &str) -> PathBuf
 
 #[test]
 fn c() {
-    run(compiled("cc", "-std=c99", "calls.c", "calls_c"), &[&set_a(), &set_a_tape()]);
+    let calls = compiled("cc", "-std=c99", "calls.c", "calls_c");
+    run(calls, &[&set_a(), &set_a_tape(), &killed()]);
 }
 
 #[test]
 fn c_example() {
     let example = compiled("cc", "-std=c99", "example.c", "example_c");
-    let [r, s, x] = ["set.r01", "set.s01", "set.x01"].map(|name| set_a().join(name));
-    let printed = run(&example, &[&r, &s, &x]);
-    assert_eq!(printed, format!("3 receivers, 3 traces\nR line {}, component 1\n", below(2)));
+    let files = |folder: PathBuf| ["set.r01", "set.s01", "set.x01"].map(|name| folder.join(name));
+    let killed = small_sets::set_a().put(File::R, below(2), 27, "KL");
+    for (folder, dead, mark) in
+        [(written("example_killed", &killed), 1, ", killed"), (set_a(), 0, "")]
+    {
+        let [r, s, x] = files(folder);
+        let printed = run(&example, &[&r, &s, &x]);
+        let line = format!("R line {}, component 1{mark}\n", below(2));
+        assert_eq!(printed, format!("3 receivers, 3 traces, {dead} dead\n{line}"));
+    }
+    let [r, _, x] = files(set_a());
     let refused = Command::new(example).args([&r, &r, &x]).output().expect("it runs");
     assert_eq!(refused.status.code(), Some(1));
     let refusal = format!("refused with 4: file 2, line {}, column 1\n", first());
@@ -95,7 +109,8 @@ fn c_example() {
 
 #[test]
 fn cpp() {
-    run(compiled("c++", "-std=c++11", "calls.cpp", "calls_cpp"), &[&set_a(), &set_a_tape()]);
+    let calls = compiled("c++", "-std=c++11", "calls.cpp", "calls_cpp");
+    run(calls, &[&set_a(), &set_a_tape(), &killed()]);
 }
 
 /// No byte is read or written that is not lent, and none is read before it is written.
@@ -103,7 +118,8 @@ fn cpp() {
 fn c_under_valgrind() {
     let calls = compiled("cc", "-std=c99", "calls.c", "calls_valgrind");
     let strict = ["--quiet", "--error-exitcode=9", "--leak-check=full"];
-    run("valgrind", &[&strict[0], &strict[1], &strict[2], &calls, &set_a(), &set_a_tape()]);
+    let [quiet, code, leaks] = &strict;
+    run("valgrind", &[quiet, code, leaks, &calls, &set_a(), &set_a_tape(), &killed()]);
 }
 
 /// The archive is made into a shared object.
@@ -112,7 +128,8 @@ fn python() {
     let shared = place("libsps.so");
     let whole = format!("-Wl,--whole-archive,{ARCHIVE},--no-whole-archive");
     run("cc", &[&"-shared", &"-Wl,-z,defs", &"-Wl,-z,text", &whole, &"-o", &shared]);
-    run("python3", &[&root().join("hosts/python/calls.py"), &shared, &set_a(), &set_a_tape()]);
+    let calls = root().join("hosts/python/calls.py");
+    run("python3", &[&calls, &shared, &set_a(), &set_a_tape(), &killed()]);
 }
 
 /// What the naive reader answers to each call of `stack.c`, as it is printed.

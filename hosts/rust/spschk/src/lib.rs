@@ -19,8 +19,8 @@ pub fn line(set: &Set) -> String {
     };
     match naive::check(medium, set.files()) {
         Ok(counts) => format!(
-            "ACCEPTED {} {} {} {}\n",
-            counts.receivers, counts.shots, counts.relations, counts.traces
+            "ACCEPTED {} {} {} {} {}\n",
+            counts.receivers, counts.shots, counts.relations, counts.traces, counts.dead_traces
         ),
         Err(refusal) => {
             let file = refusal.file.expect("a refusal of the set check has a file");

@@ -17,7 +17,7 @@ use std::ops::RangeInclusive;
 /// A name, and what changes a set. Where it finds nothing to change the set stays.
 pub type Way = (&'static str, fn(&mut Random, Set) -> Set);
 
-pub const WAYS: [Way; 33] = [
+pub const WAYS: [Way; 35] = [
     ("a byte of any value", files::any_byte),
     ("a byte of lines", files::byte_of_lines),
     ("the end of a line", files::line_end),
@@ -34,12 +34,14 @@ pub const WAYS: [Way; 33] = [
     ("a name changed by a blank", values::blank),
     ("a column of 1 to 9", values::digit),
     ("another code", values::code),
+    ("a point killed", values::killed),
     ("a shot's moment", values::moment),
     ("a shot more", values::more_shots),
     ("one receiver more or less", relations::wider),
     ("receivers covered again", relations::again),
     ("a record again", relations::record),
     ("a shot or a receiver named", relations::named),
+    ("a killed shot named", relations::killed),
     ("channels crossed", relations::crossed),
     ("receivers backwards", relations::turned),
     ("a header line dropped", headers::dropped),

@@ -1,7 +1,7 @@
 //! Relation lines that stay in form, and name or cover something else.
 
 use super::values::{number, put};
-use super::{headers_of, own_line};
+use super::{headers_of, own_line, own_lines};
 use crate::backwards;
 use small_sets::File::{R, S, X};
 use small_sets::{Line, Random, Set};
@@ -97,8 +97,7 @@ pub fn named(random: &mut Random, set: Set) -> Set {
     let Line(point) = set.line(file, point);
     set.edit(X, at, |mut line| {
         if file == S {
-            line.0[13..38].copy_from_slice(&point[1..26]);
-            return line;
+            return with_source(line, &point);
         }
         line.0[47..63].copy_from_slice(&point[1..17]);
         line.0[63..71].copy_from_slice(&point[17..25]);
@@ -111,6 +110,26 @@ pub fn named(random: &mut Random, set: Set) -> Set {
             None => line,
         }
     })
+}
+
+/// A relation line with the name, number and index of a line of S.
+fn with_source(mut line: Line, shot: &[u8; 80]) -> Line {
+    line.0[13..38].copy_from_slice(&shot[1..26]);
+    line
+}
+
+/// The source becomes a killed shot; where there is none, any shot is named and killed.
+pub fn killed(random: &mut Random, set: Set) -> Set {
+    let own = own_lines(&set, S);
+    let dead: Vec<usize> = own.filter(|&at| set.line(S, at).0[26..28] == *b"KL").collect();
+    let shot = match dead.is_empty() {
+        true => own_line(random, &set, S),
+        false => Some(random.pick(&dead)),
+    };
+    let (Some(at), Some(shot)) = (own_line(random, &set, X), shot) else { return set };
+    let set = set.edit(S, shot, |line| line.code("KL"));
+    let Line(shot) = set.line(S, shot);
+    set.edit(X, at, |line| with_source(line, &shot))
 }
 
 /// Another increment.

@@ -126,6 +126,11 @@ pub fn code(random: &mut Random, set: Set) -> Set {
     })
 }
 
+pub fn killed(random: &mut Random, set: Set) -> Set {
+    let file = random.pick(&[File::R, File::S]);
+    edit(random, set, file, |_, line| line.code("KL"))
+}
+
 /// A day or a time that is near another.
 pub fn moment(random: &mut Random, set: Set) -> Set {
     edit(random, set, File::S, |random, line| match random.below(2) {

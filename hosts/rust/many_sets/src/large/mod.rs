@@ -1,6 +1,7 @@
 //! Sets near the limits: up to 9,999 lines a file.
 
 mod headers;
+mod killed;
 mod receivers;
 mod records;
 mod seeded;
@@ -42,7 +43,7 @@ pub const ON_TAPE: [Large; 1] = [("9,954 receivers, 1,994 shots, 9,970 lines, on
 
 /// Sets that are made to take long, of any number of lines, accepted or refused as late
 /// as can be.
-pub const HOSTILE: [Large; 34] = [
+pub const HOSTILE: [Large; 39] = [
     ("one record backwards", records::one_backwards),
     ("one record backwards, the last line covers the first receiver", |lines| {
         records::covered_again(records::one_backwards(lines), own(lines))
@@ -87,13 +88,25 @@ pub const HOSTILE: [Large; 34] = [
     ("codes named last in a long header", tables::named_last),
     ("codes named last in a long header, the last is the first", tables::named_again),
     ("codes named last in a long header, the last instrument is not", tables::not_named),
+    ("nine indices in turn, half of them killed", |lines| {
+        killed::half(receivers::indices_in_turn(lines))
+    }),
+    ("records of 129 lines, half of the receivers killed", |lines| {
+        killed::half(records::of(lines, 129))
+    }),
+    ("all shuffled, half of the receivers killed", |lines| killed::half(shuffled::all(lines))),
+    ("all shots killed but the last", killed::shots),
+    ("all shots killed but the last, the last line names another", killed::named),
 ];
 
 /// Sets of nearly a hundred million traces, the most there can be at one channel
 /// a receiver.
-pub const WIDEST: [Large; 2] = [
+pub const WIDEST: [Large; 3] = [
     ("every receiver in every record", receivers::all),
     ("every receiver in every record, the last lacks", receivers::last_lacks),
+    ("every receiver in every record, half of them killed", |lines| {
+        killed::half(receivers::all(lines))
+    }),
 ];
 
 /// The sets whose check is measured.

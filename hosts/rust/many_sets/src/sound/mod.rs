@@ -8,14 +8,15 @@ mod shape;
 mod tables;
 
 use crate::lines::marker;
-use points::{receivers, shots};
+use points::{killed, receivers, shots};
 use relations::relations;
+use shape::Place;
 use small_sets::{File, Line, Random, Set};
 
-/// A sound set, and its receivers, shots, relation lines and traces.
+/// A sound set, and its receivers, shots, relation lines, traces and dead traces.
 pub struct Sound {
     pub set: Set,
-    pub counts: [u64; 4],
+    pub counts: [u64; 5],
 }
 
 /// How many numbers follow each other in R, how many shots there are, how many
@@ -36,16 +37,20 @@ pub fn sound(random: &mut Random) -> Sound {
     let names = names::of_lines(random);
     let receivers = receivers(random, &size, &names);
     let shots = if receivers.is_empty() { Vec::new() } else { shots(random, &size, &names) };
-    let relations = relations(random, &size, &receivers, &shots);
+    let [dead, omitted] = [killed(random, &receivers), killed(random, &shots)];
+    let live: Vec<Place> = shots.iter().filter(|shot| !omitted.contains(shot)).cloned().collect();
+    let relations = relations(random, &size, &receivers, &live);
     let counts = [
         receivers.len() as u64,
         shots.len() as u64,
         relations.len() as u64,
         relations.iter().map(|relation| relation.traces()).sum(),
+        relations.iter().map(|relation| relation.dead_traces(&dead)).sum(),
     ];
-    let r = receivers.iter().map(|place| place.point(random, File::R)).collect();
+    let r = receivers.iter().map(|place| place.point(random, File::R, dead.contains(place)));
+    let r = r.collect();
     let r = tables::few_codes(random, r);
-    let s = points::in_time(random, &shots);
+    let s = points::in_time(random, &shots, &omitted);
     let s = tables::few_codes(random, s);
     let x: Vec<Line> = relations.iter().map(|relation| relation.line(random)).collect();
     let block = headers::block(random, &tables::used(&r, &s, &x));

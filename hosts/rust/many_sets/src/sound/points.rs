@@ -61,13 +61,24 @@ pub fn shots(random: &mut Random, size: &Size, names: &[String]) -> Vec<Place> {
     shots
 }
 
+/// Those of some places that are killed: most often few, at times none or all.
+pub fn killed<'a>(
+    random: &mut Random,
+    places: impl IntoIterator<Item = &'a Place>,
+) -> BTreeSet<Place> {
+    let of_eight = random.pick(&[0, 1, 1, 1, 1, 2, 4, 8]);
+    places.into_iter().filter(|_| random.below(8) < of_eight).cloned().collect()
+}
+
 /// The lines of S: days and times ascend, and are often equal.
-pub fn in_time(random: &mut Random, shots: &[Place]) -> Vec<Line> {
+pub fn in_time(random: &mut Random, shots: &[Place], killed: &BTreeSet<Place>) -> Vec<Line> {
     let days = [1, 99, 100 + random.below(900) as u32];
     let times = ["000000", "235959", "071245", &time(random)].map(str::to_owned);
     let mut moments: Vec<(u32, &str)> =
         shots.iter().map(|_| (random.pick(&days), times[random.below(4)].as_str())).collect();
     moments.sort_unstable();
-    let lines = shots.iter().zip(moments);
-    lines.map(|(shot, (day, time))| shot.point(random, File::S).day(day).time(time)).collect()
+    let mut line = |(shot, (day, time)): (&Place, _)| {
+        shot.point(random, File::S, killed.contains(shot)).day(day).time(time)
+    };
+    shots.iter().zip(moments).map(&mut line).collect()
 }

@@ -3,6 +3,7 @@
 use crate::fields::{index, whole};
 use crate::lines;
 use small_sets::{File, Line, Random};
+use std::collections::BTreeSet;
 
 /// Line name, point number and index, in the order of R.
 #[derive(Clone, Debug, PartialEq, Eq, PartialOrd, Ord)]
@@ -33,8 +34,12 @@ pub struct Relation {
 
 impl Place {
     /// A receiver, or else a shot, at this place.
-    pub fn point(&self, random: &mut Random, file: File) -> Line {
+    pub fn point(&self, random: &mut Random, file: File, killed: bool) -> Line {
         let line = lines::point(random, file).name(&self.name);
+        let line = match killed {
+            true => line.code("KL"),
+            false => line.code(&lines::live(random, file)),
+        };
         line.at(18, &number(random, 8, self.number)).at(26, &digit(random, self.index))
     }
 }
@@ -42,6 +47,13 @@ impl Place {
 impl Relation {
     pub fn traces(&self) -> u64 {
         u64::from(self.receivers * self.components)
+    }
+
+    /// Those of them whose receivers are killed.
+    pub fn dead_traces(&self, killed: &BTreeSet<Place>) -> u64 {
+        let number = |at| Place { number: self.lowest.number + at, ..self.lowest.clone() };
+        let dead = (0..self.receivers).filter(|&at| killed.contains(&number(at))).count();
+        dead as u64 * u64::from(self.components)
     }
 
     /// How it is written; as often counted up as down.

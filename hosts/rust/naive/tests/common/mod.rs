@@ -58,12 +58,13 @@ fn accepted(counts: Counts) -> Answer {
         shots: counts.shots,
         relations: counts.relations,
         traces: counts.traces,
+        dead_traces: counts.dead_traces,
     }
 }
 
 fn traced(trace: Option<Trace>) -> Answer {
     match trace {
-        Some(Trace { r_line, component }) => Answer::Trace { r_line, component },
+        Some(Trace { r_line, component, killed }) => Answer::Trace { r_line, component, killed },
         None => Answer::NoTrace,
     }
 }

@@ -25,7 +25,7 @@ pub fn compare(file: File, line: Line) -> Result<(), Fault> {
     assert_eq!(probe::refusal(&line, file as u8 + 1), refusal, "{shown}");
     match read? {
         Values::Header => {}
-        Values::Point(PointLine::Point(values)) => {
+        Values::Point(PointLine::Live(values) | PointLine::Killed(values)) => {
             assert_eq!(probe::point(&line), point(values), "{shown}");
         }
         Values::Point(PointLine::Marker(values)) => {

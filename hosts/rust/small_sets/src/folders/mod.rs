@@ -1,11 +1,11 @@
 //! Small sets as folders for the program `cases`: the rows of the paper's table
-//! that check a set, set A without points, laid out backwards and with more codes, a set for
-//! each refusal number, sets with two faults, and tapes.
+//! that check a set, set A without points, laid out backwards, with more codes and with killed
+//! points, a set for each refusal number, sets with two faults, and tapes.
 
 mod one_fault;
 mod two_faults;
 
-use crate::table::{backwards, code_tables, decimals, paper, tapes};
+use crate::table::{backwards, code_tables, decimals, killed, paper, tapes};
 use crate::{headers_only, set_a, Set};
 
 pub use one_fault::{one_fault, OneFault};
@@ -46,6 +46,10 @@ pub fn folders() -> Vec<Folder> {
         folder("backwards", backwards::backwards()),
         folder("up_and_down", backwards::up_and_down()),
         folder("code_tables", code_tables::code_tables()),
+        folder("killed_receiver", killed::killed_receiver()),
+        folder("killed_receivers_between", killed::between()),
+        folder("killed_shot", killed::killed_shot()),
+        folder("killed_shot_named", killed::killed_shot_named()),
     ];
     folders.extend(one_fault().iter().map(|case| folder(&case.name(), case.set())));
     folders.extend(two_faults().iter().map(|case| folder(case.name, case.set())));
@@ -53,7 +57,7 @@ pub fn folders() -> Vec<Folder> {
 }
 
 /// Folders of tapes, and the cases of the table that they hold.
-const TAPES: [(&str, &str); 16] = [
+const TAPES: [(&str, &str); 18] = [
     ("tape_set_a", "tape: set A"),
     ("tape_headers_only", "tape: headers only"),
     ("tape_every_character", "tape: every character in headers"),
@@ -70,11 +74,13 @@ const TAPES: [(&str, &str); 16] = [
     ("tape_s_on_disc", "tape: S on disc"),
     ("tape_code_tables", "25: two of each kind, on tape"),
     ("tape_unnamed_code", "25: G2 beside G1, on tape"),
+    ("tape_killed", "killed: a receiver and a shot, on tape"),
+    ("tape_killed_shot_named", "killed: the shot, named, on tape"),
 ];
 
 /// All folders of tapes, in the order of the lines that the program prints.
 pub fn tape_folders() -> Vec<Folder> {
-    let cases = [tapes::cases(), code_tables::cases()].concat();
+    let cases = [tapes::cases(), code_tables::cases(), killed::cases()].concat();
     let set = |name| cases.iter().find(|case| case.name == name).expect("a case").set.clone();
     TAPES.map(|(name, case)| Folder { name: name.to_string(), set: set(case) }).into()
 }

@@ -186,7 +186,6 @@ fn records() -> Vec<Case> {
         of("three records", set, rows),
         of("leading zeros", zeros, plain()),
         of("blank indices and increment", blanks, plain()),
-        of("a KL receiver", set_a().put(R, below(2), 27, "KL"), plain()),
     ]
     .concat()
 }

@@ -36,7 +36,6 @@ fn missing() -> Vec<Case> {
         case("a longer name in R", r(below(3), |r| r.name("L1             1")), no()),
         case("blank index in R", r(below(2), |r| r.index(" ")), as_a()),
         case("blank index in X", x(|x| x.receiver_index(" ")), as_a()),
-        case("a KL receiver", r(below(2), |r| r.code("KL")), as_a()),
         case("other lines between", split, accepted(4, 1, 1, 3)),
         case("in the second relation line", set_a().add(X, second()), refused(18, X, below(2), 64)),
         case(

@@ -7,6 +7,7 @@ mod covers;
 pub mod decimals;
 mod files;
 mod headers;
+pub mod killed;
 mod markers;
 mod order;
 mod pairs_of_form;
@@ -24,7 +25,7 @@ use crate::Case;
 /// A name, and what gives the cases.
 pub type Section = (&'static str, fn() -> Vec<Case>);
 
-pub const SECTIONS: [Section; 17] = [
+pub const SECTIONS: [Section; 18] = [
     ("paper", paper::cases),
     ("files", files::cases),
     ("headers", headers::cases),
@@ -37,6 +38,7 @@ pub const SECTIONS: [Section; 17] = [
     ("covers", covers::cases),
     ("backwards", backwards::cases),
     ("code_tables", code_tables::cases),
+    ("killed", killed::cases),
     ("questions", questions::cases),
     ("pairs_of_form", pairs_of_form::cases),
     ("pairs_of_set", pairs_of_set::cases),

@@ -68,13 +68,14 @@ fn not_above() -> Vec<Case> {
     cases
 }
 
-/// Set A with shots added, each named by a relation line of a record of its own.
+/// Set A with shots added, each but a killed one named by a relation line of a record of its
+/// own.
 fn shots(lines: &[Line]) -> Set {
     lines.iter().zip(12..).fold(set_a(), |set, (&line, record)| {
         let mut source = relation().record(record);
         source.0[13..38].copy_from_slice(&line.0[1..26]);
         let set = set.add(S, line);
-        if line.0[26..28] == *b"PM" {
+        if matches!(&line.0[26..28], b"PM" | b"KL") {
             set
         } else {
             set.add(X, source)
@@ -149,7 +150,7 @@ fn sources() -> Vec<Case> {
         none("no shot at all", set_a().remove(S, first())),
         check("13: blank index in X", x(|x| x.source_index(" ")), as_a()),
         check("13: blank index in S", s(|s| s.index(" ")), as_a()),
-        check("13: the shot is KL", s(|s| s.code("KL")), as_a()),
+        none("the shot is KL", s(|s| s.code("KL"))),
         check(
             "13: in the second relation line",
             set_a().add(X, relation().record(12).source(502)),
@@ -191,7 +192,7 @@ fn unnamed() -> Vec<Case> {
     vec![
         check("15: no relation line", no_relation, refused(15, S, first(), 1)),
         check("15: the first shot", before, refused(15, S, first(), 1)),
-        check("15: a KL shot", kl, refused(15, S, below(2), 1)),
+        check("15: a KL shot", kl, accepted(3, 2, 1, 3)),
         check("15: two shots", two, refused(15, S, below(2), 1)),
         check("15: the shot with another index", other_index, refused(15, S, below(2), 1)),
         check("15: behind a marker", behind, refused(15, S, below(3), 1)),

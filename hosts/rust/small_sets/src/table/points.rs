@@ -45,11 +45,11 @@ pub fn cases() -> Vec<Case> {
     cases
 }
 
-/// Codes of the file with 1 to 9, which the header names, and KL; none of the other file, and
-/// no other.
+/// Codes of the file with 1 to 9, which the header names; none of the other file, and no
+/// other. `killed` has KL.
 fn codes(file: File, line: usize, own: &str, others: &str, cases: &mut Vec<Case>) {
     let with_code = |code: &str| set_a().put(file, line, 27, code);
-    let mut good = vec!["KL".to_string()];
+    let mut good = Vec::new();
     let mut bad: Vec<String> =
         ["  ", "P1", "K1", "pm", "kl", "Pm", "PL", "KM", "MP", "LK", "1G", "Z1"]
             .map(String::from)
@@ -62,7 +62,7 @@ fn codes(file: File, line: usize, own: &str, others: &str, cases: &mut Vec<Case>
     bad.extend(others.chars().map(|letter| format!("{letter}1")));
     for code in good {
         let set = match code.as_str() {
-            "KL" | "G1" | "V1" => with_code(&code),
+            "G1" | "V1" => with_code(&code),
             code => with_code(code).naming(&[code]),
         };
         cases.push(check(format!("{file:?} code `{code}`"), set, as_a()));

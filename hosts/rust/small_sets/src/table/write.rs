@@ -69,8 +69,14 @@ pub fn table_line_of(kind: u64, code: impl AsRef<[u8]>) -> Question {
     Question::TableLine { kind, code: code.as_ref().to_vec() }
 }
 
+/// The counts of a set without dead traces.
 pub fn accepted(receivers: u64, shots: u64, relations: u64, traces: u64) -> Answer {
-    Answer::Accepted { receivers, shots, relations, traces }
+    with_dead([receivers, shots, relations, traces], 0)
+}
+
+/// The receivers, shots, relation lines and traces of a set, some of which are dead.
+pub fn with_dead([receivers, shots, relations, traces]: [u64; 4], dead_traces: u64) -> Answer {
+    Answer::Accepted { receivers, shots, relations, traces, dead_traces }
 }
 
 /// The counts of set A.
@@ -87,8 +93,13 @@ pub fn placeless(number: u8) -> Answer {
     Answer::Refused { number, file: 0, line: 0, column: 0 }
 }
 
+/// From a receiver that is not killed.
 pub fn comes_from(r_line: usize, component: u8) -> Answer {
-    Answer::Trace { r_line: r_line as u16, component }
+    Answer::Trace { r_line: r_line as u16, component, killed: false }
+}
+
+pub fn comes_from_killed(r_line: usize, component: u8) -> Answer {
+    Answer::Trace { r_line: r_line as u16, component, killed: true }
 }
 
 /// The highest channel, and what each place of slices of these lengths holds

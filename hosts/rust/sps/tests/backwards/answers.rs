@@ -49,7 +49,7 @@ fn lookups_and_ways_back() {
             let channels = [channel, other_end(relation, channel)];
             let [one, other] = [0, 1].map(|n| compare(sets[n], &trace(channels[n])));
             assert_eq!(one, other, "channels {channels:?}");
-            let Answer::Trace { r_line, component } = one else { panic!("{one:?}") };
+            let Answer::Trace { r_line, component, .. } = one else { panic!("{one:?}") };
             for (set, channel) in sets.into_iter().zip(channels) {
                 assert_eq!(compare(set, &back(r_line, component)), Answer::Channel(channel));
             }

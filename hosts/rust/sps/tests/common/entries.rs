@@ -74,14 +74,16 @@ fn refused(Refusal { number, file, line, column }: Refusal) -> Answer {
     }
 }
 
-fn accepted(Accepted { receivers, shots, relations, traces }: Accepted) -> Answer {
-    Answer::Accepted { receivers, shots, relations, traces }
+fn accepted(counts: Accepted) -> Answer {
+    let Accepted { receivers, shots, relations, traces, dead_traces } = counts;
+    Answer::Accepted { receivers, shots, relations, traces, dead_traces }
 }
 
 fn traced(trace: Option<Trace>) -> Answer {
-    trace.map_or(Answer::NoTrace, |Trace { r_line, component }| Answer::Trace {
+    trace.map_or(Answer::NoTrace, |Trace { r_line, component, killed }| Answer::Trace {
         r_line: small(r_line),
         component: small(component),
+        killed,
     })
 }
 

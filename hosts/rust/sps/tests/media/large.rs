@@ -35,5 +35,5 @@ fn full_sets() {
     assert_eq!(verdict(make(FULL)), "REFUSED 2 R 10000 0\n");
     assert!(verdict(make(FULL - 1)).starts_with("ACCEPTED "));
     assert_eq!(verdict(survey(1_995)), "REFUSED 2 X 10000 0\n");
-    assert_eq!(verdict(survey(1_994)), "ACCEPTED 9954 1994 9970 1994000\n");
+    assert_eq!(verdict(survey(1_994)), "ACCEPTED 9954 1994 9970 1994000 0\n");
 }

@@ -26,7 +26,7 @@ fn every_two_characters() {
             let answer = hold(&set, &Question::Check, "two names").expect("a tape");
             let verdict = answer.verdict().expect("of a check");
             let expected = match at < before {
-                true => "ACCEPTED 2 0 0 0\n".to_owned(),
+                true => "ACCEPTED 2 0 0 0 0\n".to_owned(),
                 false => format!("REFUSED 10 R {} 2\n", below(2)),
             };
             assert_eq!(verdict, expected, "`{one}` and `{other}` in column {column}");

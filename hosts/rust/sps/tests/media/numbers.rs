@@ -16,7 +16,7 @@ const STAYS: u8 = 0xAA;
 /// The answers of the six calls; what is lent stays.
 fn answers(files: Files, tape: &[u8], numbers: [u64; 4]) -> [u64; 6] {
     let [record, channel, r_line, component] = numbers;
-    let (counts, bytes) = lent(STAYS, 40, |bytes| archive::counts(files, bytes));
+    let (counts, bytes) = lent(STAYS, 48, |bytes| archive::counts(files, bytes));
     let ((spread, components), lines) = lent(STAYS, 9, |lines| {
         lent(STAYS, 5, |components| archive::spread(files, tape, record, lines, components))
     });

@@ -12,7 +12,7 @@ use small_sets::{Random, Set};
 /// A sound set; few have no relation line.
 fn with_relations(random: &mut Random) -> Set {
     loop {
-        let Sound { set, counts: [_, _, relations, _] } = sound(random);
+        let Sound { set, counts: [_, _, relations, ..] } = sound(random);
         if relations > 0 || random.below(8) == 0 {
             return set;
         }

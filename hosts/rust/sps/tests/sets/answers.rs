@@ -18,8 +18,8 @@ pub fn refused(number: u64, file: small_sets::File, line: u64, column: u64) -> A
 pub fn naive(set: &small_sets::Set) -> Answer {
     let medium = naive::medium(set.medium as u64).expect("a medium");
     match naive::check(medium, set.files()) {
-        Ok(naive::Counts { receivers, shots, relations, traces }) => {
-            Ok(Accepted { receivers, shots, relations, traces })
+        Ok(naive::Counts { receivers, shots, relations, traces, dead_traces }) => {
+            Ok(Accepted { receivers, shots, relations, traces, dead_traces })
         }
         Err(naive::Refusal { number, file, line, column }) => {
             let file = file.map(|file| small_sets::File::ALL[file as usize]).expect("a place");

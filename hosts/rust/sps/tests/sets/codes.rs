@@ -28,12 +28,11 @@ fn media() -> ([Set; 2], usize) {
 }
 
 /// Holds each code of a line. A byte that is not taken is 3 at its column. A code of the
-/// list leaves the set accepted, but PM, which leaves its relation line without a point;
-/// every other is 5 at column 27.
-fn hold(mut set: Set, file: File, line: usize, without: Answer) {
+/// list leaves the set accepted, but PM, which leaves its relation line without a point, and
+/// KL; every other is 5 at column 27.
+fn hold(mut set: Set, file: File, line: usize, without: Answer, killed: Answer) {
     let at = set.start(line) + 26;
     let text: [_; 256] = std::array::from_fn(|byte| character(set.medium, byte as u8));
-    let as_a = Accepted { receivers: 3, shots: 1, relations: 1, traces: 3 };
     let refused = |number, column| refused(number, file, line as u64, column);
     let (listed, mut taken) = (codes(file), 0);
     for code in (0..=u16::MAX).map(u16::to_be_bytes) {
@@ -41,28 +40,34 @@ fn hold(mut set: Set, file: File, line: usize, without: Answer) {
             [None, _] => refused(3, 27),
             [_, None] => refused(3, 28),
             [Some(b'P'), Some(b'M')] => without,
-            [Some(first), Some(second)] if listed.contains(&[first, second]) => Ok(as_a),
+            [Some(b'K'), Some(b'L')] => killed,
+            [Some(first), Some(second)] if listed.contains(&[first, second]) => as_a(0),
             _ => refused(5, 27),
         };
         set.file_mut(file)[at..at + 2].copy_from_slice(&code);
         assert_eq!(proved(&set), expected, "{file:?} {code:?}, {:?}", set.medium);
-        taken += usize::from(expected.is_ok());
+        taken += usize::from(expected == as_a(0));
     }
-    assert_eq!(taken, listed.len() - 1, "{file:?}, {:?}", set.medium);
+    assert_eq!(taken, listed.len() - 2, "{file:?}, {:?}", set.medium);
 }
 
-/// A marker is no receiver: 18.
+/// The counts of set A with so many dead traces.
+fn as_a(dead_traces: u64) -> Answer {
+    Ok(Accepted { receivers: 3, shots: 1, relations: 1, traces: 3, dead_traces })
+}
+
+/// A marker is no receiver: 18. A killed one has a dead trace.
 #[test]
 fn each_code_in_r() {
     let (sets, down) = media();
     let without = refused(18, X, (first() + down) as u64, 64);
-    sets.into_iter().for_each(|set| hold(set, R, below(2) + down, without));
+    sets.into_iter().for_each(|set| hold(set, R, below(2) + down, without, as_a(1)));
 }
 
-/// A marker is no shot: 13.
+/// A marker is no shot, and a killed one may not be named: 13.
 #[test]
 fn each_code_in_s() {
     let (sets, down) = media();
     let without = refused(13, X, (first() + down) as u64, 14);
-    sets.into_iter().for_each(|set| hold(set, S, first() + down, without));
+    sets.into_iter().for_each(|set| hold(set, S, first() + down, without, without));
 }

@@ -20,7 +20,7 @@ pub fn compare(set: &Set, how: &str) -> Answer {
 /// The same; and the calls with and without counts answer alike.
 pub fn compare_calls(set: &Set, how: &str) -> Answer {
     let answer = compare(set, how);
-    compare_counts(set, answer, 33, how);
+    compare_counts(set, answer, 41, how);
     let traces = wrapped(set).traces();
     assert_eq!(traces, answer.map(|accepted| accepted.traces), "the traces, {how}");
     answer

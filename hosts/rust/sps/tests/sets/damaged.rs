@@ -9,14 +9,16 @@ use sps::Accepted;
 /// The naive reader, the proved one and the maker of a set agree on what it holds.
 #[test]
 fn sound_sets() {
-    let mut random = random(30);
+    let (mut random, mut with_dead) = (random(30), 0);
     for turn in 0..turns(20_000) {
         let made = sound(&mut random);
         let compare = if turn % 8 == 0 { compare_calls } else { compare };
-        let [receivers, shots, relations, traces] = made.counts;
-        let counts = Accepted { receivers, shots, relations, traces };
+        let [receivers, shots, relations, traces, dead_traces] = made.counts;
+        let counts = Accepted { receivers, shots, relations, traces, dead_traces };
         assert_eq!(compare(&made.set, "a sound set"), Ok(counts), "as it is made");
+        with_dead += u64::from(dead_traces > 0 && dead_traces < traces);
     }
+    assert!(with_dead > turns(3_000), "{with_dead} sets have dead traces and others");
 }
 
 /// Sets with so many changes.

@@ -14,7 +14,8 @@ use std::collections::BTreeSet;
 fn most_lines() {
     let full = two_million_traces();
     let most = u64::from(most());
-    let counts = Accepted { receivers: most, shots: most, relations: most, traces: 200 * most };
+    let (receivers, shots, relations, traces) = (most, most, most, 200 * most);
+    let counts = Accepted { receivers, shots, relations, traces, dead_traces: 0 };
     assert_eq!(compare_calls(&full, "9,999 lines"), Ok(counts));
     for file in File::ALL {
         let refused = |number, line| refused(number, file, line, 0);
@@ -56,7 +57,8 @@ fn last_lines() {
     hold(last(File::X, &|x| record(x).channels(201, 400)), 19, File::X, 64);
 }
 
-/// One line covers all receivers: any that lacks, and any that is covered again.
+/// One line covers all receivers: any that is killed, any that lacks, and any that is covered
+/// again.
 #[test]
 fn one_wide_line() {
     let most = most();
@@ -66,9 +68,17 @@ fn one_wide_line() {
         .add(File::X, relation().channels(1, most).receivers(1, most));
     let refused = |number, line| refused(number, File::X, line as u64, 64);
     let (receivers, traces) = (most.into(), most.into());
-    let counts = Accepted { receivers, shots: 1, relations: 1, traces };
+    let counts = Accepted { receivers, shots: 1, relations: 1, traces, dead_traces: 0 };
     assert_eq!(compare_calls(&wide, "one line"), Ok(counts));
+    let killed = (first()..)
+        .take(most as usize)
+        .fold(wide.clone(), |set, line| set.edit(File::R, line, |r| r.code("KL")));
+    let dead = Accepted { dead_traces: traces, ..counts };
+    assert_eq!(compare_calls(&killed, "one line, all killed"), Ok(dead));
     for n in [1, 2, 255, 256, 257, 512, 4_096, 8_192, most - 1, most] {
+        let killed = wide.clone().edit(File::R, below(n as usize), |r| r.code("KL"));
+        let one = Accepted { dead_traces: 1, ..counts };
+        assert_eq!(compare_calls(&killed, &format!("{n} killed")), Ok(one));
         let without = wide.clone().remove(File::R, below(n as usize));
         assert_eq!(compare_calls(&without, &format!("without {n}")), refused(18, first()));
         let again =

@@ -9,7 +9,8 @@ use small_sets::File::{R, S, X};
 use small_sets::{codes, header, header_with, set_a, File, Set};
 use sps::Accepted;
 
-const AS_A: Answer = Ok(Accepted { receivers: 3, shots: 1, relations: 1, traces: 3 });
+const AS_A: Answer =
+    Ok(Accepted { receivers: 3, shots: 1, relations: 1, traces: 3, dead_traces: 0 });
 
 /// A kind: the file that uses its codes and the column where, the first and the last of its
 /// first records, how far they are apart, and the code that set A names.

@@ -30,8 +30,8 @@ fn sound_sets() {
         assert_eq!(without, [0, made[0] + made[1]]);
         as_made = [as_made[0] + made[0], as_made[1] + made[1]];
         pointed += u64::from(with[0] > 0 && with[1] == 0);
-        let [receivers, shots, relations, traces] = counts;
-        let accepted = Answer::Accepted { receivers, shots, relations, traces };
+        let [receivers, shots, relations, traces, dead_traces] = counts;
+        let accepted = Answer::Accepted { receivers, shots, relations, traces, dead_traces };
         assert_eq!(hold(&sets, &Question::Check, "a sound set"), accepted);
         for question in asked(&mut random, &set) {
             let answer = hold(&sets, &question, "a sound set");

@@ -9,7 +9,7 @@ use std::fs::OpenOptions;
 fn full_files() {
     let (status, verdict, _) = of("full_files", &two_million_traces());
     let (most, traces) = (most(), 200 * most());
-    let expected = format!("ACCEPTED {most} {most} {most} {traces}\n");
+    let expected = format!("ACCEPTED {most} {most} {most} {traces} 0\n");
     assert_eq!((status, verdict), (Some(0), expected));
 }
 

@@ -4,6 +4,7 @@
 mod program;
 
 mod codes;
+mod killed;
 mod large;
 mod reasons;
 mod tables;

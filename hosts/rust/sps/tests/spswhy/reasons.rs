@@ -8,7 +8,7 @@ use std::collections::BTreeSet;
 
 #[test]
 fn accepted() {
-    let expected = (Some(0), "ACCEPTED 3 1 1 3\n".to_owned(), String::new());
+    let expected = (Some(0), "ACCEPTED 3 1 1 3 0\n".to_owned(), String::new());
     assert_eq!(of("accepted", &set_a()), expected);
 }
 
@@ -59,7 +59,7 @@ fn channels_and_receivers() {
                  lead to as many receivers as are named, counted up or down (72)\n";
     for (from, to) in [(101, 103), (103, 101)] {
         let set = set_a().edit(File::X, first(), |x| x.receivers(from, to));
-        let expected = (Some(0), "ACCEPTED 3 1 1 3\n".to_owned(), String::new());
+        let expected = (Some(0), "ACCEPTED 3 1 1 3 0\n".to_owned(), String::new());
         assert_eq!(of("channels_and_receivers", &set), expected);
         for (at, text, column) in [(39, "   3   1", 39), (47, "2", 47), (43, "   4", 72)] {
             let set = set.clone().put(File::X, first(), at, text);

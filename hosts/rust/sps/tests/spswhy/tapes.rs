@@ -12,7 +12,7 @@ fn tape(set: &Set) -> Set {
 
 #[test]
 fn accepted() {
-    let expected = (Some(0), "ACCEPTED 3 1 1 3\n".to_owned(), String::new());
+    let expected = (Some(0), "ACCEPTED 3 1 1 3 0\n".to_owned(), String::new());
     assert_eq!(of("accepted_on_tape", &tape(&set_a())), expected);
 }
 

@@ -39,7 +39,7 @@ fn the_three_files_are_opened() {
     let log = folder.path(R).with_file_name("log");
     let mut command = folder.command();
     command.env("LD_PRELOAD", calls()).env("CALLS_LOG", &log);
-    assert_eq!(Folder::line(&mut command), "ACCEPTED 3 1 1 3\n");
+    assert_eq!(Folder::line(&mut command), "ACCEPTED 3 1 1 3 0\n");
     let opened = fs::read_to_string(log).expect("a log");
     assert_eq!(opened, "set.r01\nset.s01\nset.x01\n");
 }
@@ -86,5 +86,5 @@ fn a_later_read_that_fails_is_no_file() {
         }
     }
     let line = says(&folder, &[("CALLS_PIECE", 1_200), ("CALLS_FAIL", 10)]);
-    assert_eq!(line, "ACCEPTED 3 1 1 3\n");
+    assert_eq!(line, "ACCEPTED 3 1 1 3 0\n");
 }

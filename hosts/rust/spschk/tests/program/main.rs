@@ -38,7 +38,7 @@ fn sized(file: File, bytes: usize) -> Set {
 
 #[test]
 fn set_a_is_accepted() {
-    assert_eq!(Folder::of("set_a", &set_a()).says(), "ACCEPTED 3 1 1 3\n");
+    assert_eq!(Folder::of("set_a", &set_a()).says(), "ACCEPTED 3 1 1 3 0\n");
 }
 
 /// The folders of `cases`: the paper's rows, each refusal number, two faults. 10,000
@@ -105,7 +105,7 @@ fn files_of_799_lines_are_accepted() {
         .add_all(X, (12..).map(|number| relation().record(number)).take(more(X)));
     assert_eq!(File::ALL.map(|file| long.file(file).len()), [65_518; 3]);
     let own = LINES - last_header();
-    assert_eq!(spschk::line(&long), format!("ACCEPTED {own} 1 {own} {}\n", 3 * own));
+    assert_eq!(spschk::line(&long), format!("ACCEPTED {own} 1 {own} {} 0\n", 3 * own));
     assert_eq!(Folder::of("long", &long).says(), spschk::line(&long));
     for file in File::ALL {
         let odd = long.clone().put(file, LINES, 1, "Q");
@@ -183,6 +183,6 @@ fn short_reads_are_put_together() {
             thread::sleep(Duration::from_millis(20));
         }
     });
-    assert_eq!(folder.says(), "ACCEPTED 3 1 1 3\n");
+    assert_eq!(folder.says(), "ACCEPTED 3 1 1 3 0\n");
     writer.join().expect("the writer");
 }

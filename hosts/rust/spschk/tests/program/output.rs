@@ -55,5 +55,5 @@ fn all_descriptors_may_be_closed() {
 #[test]
 fn the_first_descriptor_is_read() {
     let folder = Folder::of("no_input", &set_a());
-    assert_eq!(Folder::line(&mut folder.shell(r#"exec "$0" <&-"#)), "ACCEPTED 3 1 1 3\n");
+    assert_eq!(Folder::line(&mut folder.shell(r#"exec "$0" <&-"#)), "ACCEPTED 3 1 1 3 0\n");
 }

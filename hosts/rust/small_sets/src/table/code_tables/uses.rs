@@ -3,7 +3,7 @@
 use super::{begin_none, code_tables, kinds, unnamed_code, with, without};
 use crate::line::{header_with, marker, receiver, relation, shot, Line};
 use crate::place::{below, first};
-use crate::table::write::{accepted, as_a, check, refused};
+use crate::table::write::{accepted, as_a, check, refused, with_dead};
 use crate::File::{self, R, S, X};
 use crate::{codes, header, headers_only, set_a, Answer, Case, Set};
 
@@ -127,13 +127,13 @@ fn none_used() -> Vec<Case> {
         (first()..=set.lines(file)).fold(set, |set, line| set.put(file, line, 27, code))
     };
     let killed_r = all(set_a(), R, "KL");
-    let killed_s = all(set_a(), S, "KL");
+    let killed_s = all(set_a(), S, "KL").remove(X, first());
     let markers = headers_only().add(R, marker(R)).add(S, marker(S));
     let no_points = without(without(markers, 700), 600);
     let named = |code: &str| with(set_a(), &[600, 700].map(|number| header(number).at(33, code)));
     vec![
-        check("25: killed receivers, no H600", without(killed_r, 600), as_a()),
-        check("25: a killed shot, no H700", without(killed_s, 700), as_a()),
+        check("25: killed receivers, no H600", without(killed_r, 600), with_dead([3, 1, 1, 3], 3)),
+        check("25: a killed shot, no H700", without(killed_s, 700), accepted(3, 1, 0, 0)),
         check("25: markers, no H600 and no H700", no_points, accepted(0, 0, 0, 0)),
         check("25: H600 and H700 of PM", named("PM"), as_a()),
         check("25: H600 and H700 of KL", named("KL"), as_a()),

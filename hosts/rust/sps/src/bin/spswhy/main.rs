@@ -3,8 +3,8 @@
 //!
 //! All it knows of sets is what the proved check says. `files` reads the three files,
 //! `reason` puts a refusal into words, `fields` names the field that a column starts,
-//! `codes` has the families of codes, `tables` what the header names, `text` the characters
-//! of a line, `looks` what a file looks like.
+//! `codes` has the families of codes, `tables` what the header names, `shots` the shot that a
+//! relation line names, `text` the characters of a line, `looks` what a file looks like.
 
 #![forbid(unsafe_code)]
 
@@ -13,6 +13,7 @@ mod fields;
 mod files;
 mod looks;
 mod reason;
+mod shots;
 mod tables;
 mod text;
 
@@ -31,7 +32,7 @@ Checks the SPS set of the files R (receivers), S (shots) and X (relations), line
 EBCDIC, code page 037, ended by one with EOF in its first columns. Prints one line on
 standard output:
 
-    ACCEPTED receivers shots relation-lines traces
+    ACCEPTED receivers shots relation-lines traces dead-traces
     REFUSED number file line column
 
 A refusal is the first breach. Its reason and its line, with a mark under the column,

@@ -3,6 +3,7 @@
 use crate::codes;
 use crate::fields::{field, Field, CODE};
 use crate::files::{width, Named};
+use crate::shots;
 use crate::tables;
 use crate::text::shown;
 use sps::{File, Medium, Number, Refusal};
@@ -29,6 +30,7 @@ pub fn of(medium: Medium, refusal: &Refusal, names: &[Named; 3], files: &[Vec<u8
             let told = match number {
                 Number::CodeNamedTwice => tables::earlier(medium, &files[0], line),
                 Number::CodeNotNamed => tables::rows(medium, &files[0], file),
+                Number::NoShot => shots::killed(medium, &names[1], &files[1], &text),
                 _ => rule(number, file, &text, column),
             };
             told + &marked(&text, column)

@@ -1,0 +1,65 @@
+//! Killed points: five counts, and where a killed shot that is named stands.
+
+use crate::of;
+use small_sets::place::{below, first};
+use small_sets::File::{R, S, X};
+use small_sets::{examples, relation, set_a, shot, Set};
+
+/// On disc and on tape.
+fn media(set: &Set) -> [Set; 2] {
+    [set.clone(), set.on_tape().expect("characters of a tape")]
+}
+
+#[test]
+fn dead_traces() {
+    let example = examples().into_iter().find(|example| example.name == "killed");
+    let set = example.expect("the example").set;
+    for set in media(&set) {
+        let expected = (Some(0), "ACCEPTED 3 2 1 9 3\n".to_owned(), String::new());
+        assert_eq!(of("dead_traces", &set), expected);
+    }
+    let all = (1..=3).fold(set_a(), |set, n| set.put(R, below(n), 27, "KL"));
+    assert_eq!(of("dead_traces", &all).1, "ACCEPTED 3 1 1 3 3\n");
+}
+
+const WORDS: &str = "refused with 13: no shot has the source line name, point and index of the \
+relation line, or the shot that has them is killed\n";
+
+/// Holds all that is said of a relation line whose shot is not there, or is killed in a line of S.
+fn hold(name: &str, set: &Set, line: usize, killed: Option<usize>) {
+    let told = killed
+        .map_or_else(String::new, |line| format!("the shot is killed: set.s01, line {line}\n"));
+    let text = String::from_utf8_lossy(&set.line(X, line).0).into_owned();
+    let reason = format!("set.x01, line {line}, column 14\n{WORDS}{told}{text}\n{:>14}\n", '^');
+    for set in media(set) {
+        let expected = (Some(1), format!("REFUSED 13 X {line} 14\n"), reason.clone());
+        assert_eq!(of(name, &set), expected, "{name}, {:?}", set.medium);
+    }
+}
+
+#[test]
+fn a_killed_shot_is_named() {
+    let killed = set_a().put(S, first(), 27, "KL");
+    hold("killed_shot", &killed, first(), Some(first()));
+    let zeros = killed.clone().put(X, first(), 30, "00000501").put(X, first(), 38, " ");
+    hold("killed_zeros", &zeros, first(), Some(first()));
+    let blank = killed.put(S, first(), 26, " ").put(S, first(), 18, "00000501");
+    hold("killed_blank", &blank, first(), Some(first()));
+    let third = set_a()
+        .add(S, shot(502).code("KL"))
+        .add(S, shot(503).code("KL"))
+        .add(X, relation().record(12).source(503));
+    hold("killed_third", &third, below(2), Some(below(3)));
+}
+
+/// Killed shots of another name, number or index, and live ones, are not it.
+#[test]
+fn no_shot_is_named() {
+    let k = |point| shot(point).code("KL");
+    let others = [k(502), k(501).index("2"), k(501).name("L 1"), k(501).name("l1")];
+    let set = set_a().remove(S, first()).add_all(S, others);
+    hold("none_is_it", &set, first(), None);
+    hold("no_shot", &set_a().remove(S, first()), first(), None);
+    let marker = set_a().put(S, first(), 27, "PM");
+    hold("a_marker", &marker, first(), None);
+}
