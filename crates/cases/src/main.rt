@@ -44,7 +44,7 @@ fn said(how: Reading, r: &[u8], s: &[u8], x: &[u8], a: &mut [u8], b: &mut [u8], 
     let j = files::size(files::load(s, b).input());
     let k = files::size(files::load(x, c).input());
     let v = sets::check(how, &a[..i], &b[..j], &c[..k]);
-    let mut line = [0u8; 96];
+    let mut line = [0u8; 120];
     let n = words::verdict(v, &mut line);
     io::write_all(STDOUT_FILENO, &line[..n]);
 }

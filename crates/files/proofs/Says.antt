@@ -22,7 +22,7 @@ pub record Says (f o o′ : List ℕ) (n : ℕ) : Type 0 where
   pub written : o′ ≡ over f o
 
 -- the clauses of a call that says something
-pub says : {f o o′ : List ℕ} {n : ℕ} → (n ≡ length f) × ((o′ ≡ over f o) × (n ≤ 93)) → Says f o o′ n
+pub says : {f o o′ : List ℕ} {n : ℕ} → (n ≡ length f) × ((o′ ≡ over f o) × (n ≤ 114)) → Says f o o′ n
 says e = record { value = e .0; written = e .1 .0 }
 
 pub over-none : (o : List ℕ) → over [] o ≡ o

@@ -54,7 +54,7 @@ fn part(i: Input, b: &[u8]) -> &[u8]
 fn fault(n: u8, i: Input, out: &mut [u8]) -> usize
     ensures value { λ m. ⌜ m ≡ length (faultOf n i) ⌝ }
     ensures written { λ _. ⌜ now (out .exit) ≡ over (faultOf n i) (now (out .entry)) ⌝ }
-    ensures small { λ m. ⌜ m ≤ 93 ⌝ }
+    ensures small { λ m. ⌜ m ≤ 114 ⌝ }
 {
     match i {
         Input::Missing => words::no_file(n, out),
@@ -67,7 +67,7 @@ fn fault(n: u8, i: Input, out: &mut [u8]) -> usize
 pub fn report(i: Input, r: &[u8], j: Input, s: &[u8], k: Input, x: &[u8], out: &mut [u8]) -> usize
     ensures value { λ n. ⌜ n ≡ length (reportOf i (now (r .entry)) j (now (s .entry)) k (now (x .entry))) ⌝ }
     ensures written { λ _. ⌜ now (out .exit) ≡ over (reportOf i (now (r .entry)) j (now (s .entry)) k (now (x .entry))) (now (out .entry)) ⌝ }
-    ensures small { λ n. ⌜ n ≤ 93 ⌝ }
+    ensures small { λ n. ⌜ n ≤ 114 ⌝ }
 {
     let a = fault(1, i, out);
     if a != 0 {
@@ -102,7 +102,7 @@ pub fn tell(
     ensures x_found { λ t. ⌜ Found (now (x .entry)) (t .x) (now (c .entry)) (now (c .exit)) ⌝ }
     ensures value { λ t. ⌜ t .size ≡ length (told t (now (a .exit)) (now (b .exit)) (now (c .exit))) ⌝ }
     ensures written { λ t. ⌜ now (out .exit) ≡ over (told t (now (a .exit)) (now (b .exit)) (now (c .exit))) (now (out .entry)) ⌝ }
-    ensures small { λ t. ⌜ t .size ≤ 93 ⌝ }
+    ensures small { λ t. ⌜ t .size ≤ 114 ⌝ }
 {
     let i = load(r, a);
     let j = load(s, b);
@@ -122,7 +122,7 @@ pub fn print(r: &[u8], s: &[u8], x: &[u8], a: &mut [u8], b: &mut [u8], c: &mut [
     ensures s_found { λ p. ⌜ Found (now (s .entry)) (p .said .s) (now (b .entry)) (now (b .exit)) ⌝ }
     ensures x_found { λ p. ⌜ Found (now (x .entry)) (p .said .x) (now (c .entry)) (now (c .exit)) ⌝ }
 {
-    let mut line = [0u8; 96];
+    let mut line = [0u8; 120];
     let said = tell(r, s, x, a, b, c, &mut line);
     let n = said.size;
     let whole = io::write_all(libc::STDOUT_FILENO, &line[..n]);

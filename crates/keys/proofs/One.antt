@@ -4,6 +4,8 @@ use Rattle.keys.proofs.precedes as precedes
 use Rattle.keys.proofs.precedes.Reads as precedes-reads
 use Rattle.keys.proofs.takes as takes
 use Rattle.keys.proofs.takes.Reads as takes-reads
+use Rattle.keys.proofs.killed as killed
+use Rattle.keys.proofs.killed.Reads as killed-reads
 use Rattle.keys.proofs.key_of as key-of
 use Rattle.keys.proofs.key_of.Reads as key-of-reads
 use Rattle.keys.proofs.is_at as is-at
@@ -70,3 +72,6 @@ second-one κs a v v′ w w′ = alike
 
 pub third-one : One third.ended third-reads.Post
 third-one κs a v v′ w w′ = alike
+
+pub killed-one : One killed.ended killed-reads.Post
+killed-one κs a v v′ w w′ = alike

@@ -4,6 +4,7 @@
 ghost use mathlib.Core.Path.{_≡_};
 ghost use Prim.Native.Nat.{_<_};
 ghost use Rattle.rules.specs.Layout.{sps93};
+ghost use Rattle.rules.specs.Points.{pointAt, isKilled};
 ghost use Rattle.lines.specs.Reading.{sheetOf};
 ghost use Rattle.form.specs.Known.{owned};
 ghost use Rattle.keys.specs.Keys.{lineAt, shotKey, receiverKey};
@@ -12,6 +13,8 @@ ghost use Rattle.keys.specs.Keyed.{takesIn, keysIn, holdsKey};
 use fields::figures;
 use fields::names;
 use lines::Reading;
+use records::state;
+use records::state::State;
 
 mod parts;
 
@@ -55,6 +58,18 @@ pub fn takes(z: Keyed, f: &[u8], k: usize) -> bool
         return false;
     }
     parts::takes(how, by, &lines::own_of(how, f, k))
+}
+
+// Line k is killed.
+pub fn killed(how: Reading, f: &[u8], k: usize) -> bool
+    requires { ⌜ k < sheetOf how (now f) .count ⌝ }
+    ensures value { λ t. ⌜ t ≡ isKilled (pointAt (sheetOf how (now (f .entry))) k) ⌝ }
+{
+    match state::state_in(how, &lines::own_of(how, f, k)) {
+        State::Killed => true,
+        State::Live => false,
+        State::Marker => false,
+    }
 }
 
 // The key of line k.

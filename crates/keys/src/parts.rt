@@ -9,6 +9,8 @@ use crate::By;
 use fields::figures;
 use fields::names;
 use lines::Reading;
+use records::state;
+use records::state::State;
 
 // H in column 1.
 fn is_header(how: Reading, l: &[u8; 80]) -> bool
@@ -17,14 +19,15 @@ fn is_header(how: Reading, l: &[u8; 80]) -> bool
     lines::is_letter(how, l[0], b'H')
 }
 
-// PM in columns 27-28.
+// A marker.
 fn is_marker(how: Reading, l: &[u8; 80]) -> bool
     ensures value { λ t. ⌜ t ≡ isMarker sps93 (ranked (mediumOf how .charOf) (now (l .entry))) ⌝ }
 {
-    if lines::is_letter(how, l[26], b'P') {
-        return lines::is_letter(how, l[27], b'M');
+    match state::state_in(how, l) {
+        State::Marker => true,
+        State::Live => false,
+        State::Killed => false,
     }
-    false
 }
 
 // A receiver or a shot: no header line and no marker.

@@ -4,6 +4,7 @@ pub mod Sizes
 pub mod Reaches
 pub mod Six
 pub mod Values
+pub mod States
 pub mod Five
 pub mod Back
 pub mod One

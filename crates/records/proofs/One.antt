@@ -40,6 +40,8 @@ use Rattle.records.proofs.fits.rule5 as rule5
 use Rattle.records.proofs.fits.rule5.Reads as rule5-reads
 use Rattle.records.proofs.fits.rule6 as rule6
 use Rattle.records.proofs.fits.rule6.Reads as rule6-reads
+use Rattle.records.proofs.state.state_in as state-in
+use Rattle.records.proofs.state.state_in.Reads as state-in-reads
 use Rattle.records.proofs.point.point_of as point-of
 use Rattle.records.proofs.point.point_of.Reads as point-of-reads
 use Rattle.records.proofs.relation.number_at as number-at
@@ -137,3 +139,6 @@ meets-one κs a v v′ w w′ p p′ =
     let s = p .0 .0 in
     let t = p .0 .1 in
     (p .1 (s .0) (t .0) (s .1) (t .1) (s .2) (t .2) ∙ sym (p′ .1 (s .0) (t .0) (s .1) (t .1) (s .2) (t .2)), refl)
+
+pub state-in-one : One state-in.ended state-in-reads.Post
+state-in-one κs a v v′ w w′ = alike

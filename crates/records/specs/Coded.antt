@@ -4,14 +4,14 @@
 --   rowsOf t     = the table t
 --   noRow        = what stands beyond a table's end
 --   rowFits m l w = the field of row w of line l obeys its rule, or is free in the marker that m says l is
---   codedReach q, codedRelation v, codedPoint v = the paper's values as the code holds them
+--   codedReach q, codedRelation v, codedState s, codedPoint v = the paper's values as the code holds them
 use Prim.Native.Nat.{ℕ, _≤_}
 use lib.IntN.{ℤ}
 use mathlib.Core.Bool.{Bool, true, false, _&&_, _||_}
 use mathlib.Core.List.{List}
 use Rattle.rules.specs.Layout.{sps93, at}
 use Rattle.rules.specs.Kinds.{Kind, startsNonBlank, mayBeBlank, fits}
-use Rattle.rules.specs.Points.{Held as PaperHeld, absent, held, Point as PaperPoint}
+use Rattle.rules.specs.Points.{Held as PaperHeld, absent, held, State as PaperState, live, killed, marker, Point as PaperPoint}
 use Rattle.rules.specs.Relations.{Reach as PaperReach, Relation as PaperRelation}
 use Rattle.fields.specs.Packed.{packed, nameOf}
 use Rattle.fields.specs.Texts.{Wide}
@@ -21,6 +21,8 @@ use Rattle.fields.specs.declared.Kind.{Kind as CodeKind}
 use Rattle.records.specs.declared.point.Held.{Held}
 use Rattle.records.specs.declared.point.Held.the-variants.{Absent, Value}
 use Rattle.records.specs.declared.point.Point.{Point as PointValues}
+use Rattle.records.specs.declared.state.State.{State}
+use Rattle.records.specs.declared.state.State.the-variants.{Live, Killed, Marker}
 use Rattle.records.specs.declared.relation.Reach.{Reach}
 use Rattle.records.specs.declared.relation.Relation.{Relation as RelationValues}
 use Rattle.records.specs.declared.table.Row.{Row}
@@ -86,6 +88,11 @@ abbrev pub heldPaper : PaperHeld → Held
 heldPaper absent = Absent
 heldPaper (held v) = Value v
 
+abbrev pub codedState : PaperState → State
+codedState live = Live
+codedState killed = Killed
+codedState marker = Marker
+
 abbrev pub codedPoint : PaperPoint → PointValues
 codedPoint v =
     record {
@@ -93,6 +100,7 @@ codedPoint v =
       number = v .number;
       index = v .index;
       code = packed (v .code);
+      state = codedState (v .state);
       fixed = heldPaper (v .static);
       depth = v .depth;
       datum = v .datum;

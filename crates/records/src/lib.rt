@@ -4,5 +4,6 @@ pub mod cover;
 pub mod fits;
 pub mod point;
 pub mod relation;
+pub mod state;
 mod straight;
 mod table;

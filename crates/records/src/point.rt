@@ -8,6 +8,8 @@ ghost use Rattle.rules.specs.Points.{point as pointValues};
 ghost use Rattle.fields.specs.Paper.{number};
 ghost use Rattle.records.specs.Coded.{heldOf, codedPoint};
 use crate::relation;
+use crate::state;
+use crate::state::State;
 use fields::Name;
 use fields::Number;
 use fields::bytes;
@@ -26,6 +28,7 @@ pub struct Point {
     pub number: u32,
     pub index: u32,
     pub code: u64,
+    pub state: State,
     pub fixed: Held,
     pub depth: i64,
     pub datum: i64,
@@ -62,6 +65,7 @@ pub fn point_of(l: &[u8; 80]) -> Point
         number: relation::number_at(l, 18, 25),
         index: relation::index_at(l, 26),
         code: names::pack(l, 27, 28),
+        state: state::state_in(lines::disc(), l),
         fixed: fixed,
         depth: ranges::value(numbers::decimal(l, 33, 36)),
         datum: ranges::value(numbers::signed(l, 37, 40)),

@@ -20,17 +20,17 @@ use Rattle.rules.specs.Text.{col}
 use Rattle.rules.specs.Kinds.{fits}
 use Rattle.rules.specs.Sheet.{Sheet, mostLines}
 use Rattle.rules.specs.Disc.{printable}
-use Rattle.rules.specs.Points.{pointAt}
+use Rattle.rules.specs.Points.{pointAt, isKilled}
 use Rattle.rules.specs.Relations.{reachAt}
 use Rattle.rules.specs.Cover.{leads, component}
 use Rattle.rules.specs.Order.{receiverLine}
-use Rattle.rules.specs.Check.{Answer, refusal, trace, channel, highest, noTrace, rules, verdict, answer}
+use Rattle.rules.specs.Check.{Answer, leadsToKilled, refusal, trace, channel, highest, noTrace, rules, verdict, answer}
 use Rattle.rules.specs.Questions.{recordAsked, channelAsked, lineAsked, componentAsked, rule20}
 use Rattle.rules.specs.Lookup.{found, foundBack, lookup, wayBack}
 use Rattle.rules.specs.MeetsForm.{Data}
 use Rattle.rules.specs.MeetsDisc.{Printable}
 use Rattle.rules.specs.MeetsCover.{Carries}
-use Rattle.rules.specs.MeetsSet.{Receiver}
+use Rattle.rules.specs.MeetsSet.{Receiver, Killed}
 use Rattle.rules.specs.Meets.{Meets}
 use Rattle.rules.specs.Refuses.{Order, First, order}
 use Rattle.rules.specs.MeetsQuestions.{Asked, Unasked, AskedChannel, UnaskedChannel, AskedLine, UnaskedLine, Uncovered, Unreached, asking}
@@ -45,7 +45,8 @@ use Rattle.rules.proofs.Refuses.{rules-same}
 use Rattle.rules.proofs.Same.{Same, same-look, same-then}
 use Rattle.rules.proofs.Meets.{verdict-meets}
 use Rattle.rules.proofs.Accepted.{sound, receiver-there, receiver-line}
-use Rattle.rules.proofs.Traces.{found-view, back-view, not-carried, not-reached, found-trace}
+use Rattle.rules.proofs.Order.{killed-is}
+use Rattle.rules.proofs.Traces.{found-view, back-view, marked, not-carried, not-reached, found-trace}
 use Rattle.rules.proofs.Traces.{one-trace, back-trace, trace-back, traced-range, back-range}
 
 -- an answer that is no refusal
@@ -57,8 +58,8 @@ unfolding answer
 answered fine a b n = (λ e. (refl, e), λ w. w .1)
 answered (refused w) a b n = (λ e. absurd (n w (sym e)), λ y. let z : _≡_ {A = ℕ} 0 1 = let e = y .0 in cc in absurd (omega arith))
 
-trace-answered : (l m : ℕ) → Answered (trace l m)
-trace-answered l m w e = let z : _≡_ {A = ℕ} 0 1 = cc in omega arith
+trace-answered : (l m : ℕ) (d : Bool) → Answered (trace l m d)
+trace-answered l m d w e = let z : _≡_ {A = ℕ} 0 1 = cc in omega arith
 
 channel-answered : (c : ℕ) → Answered (channel c)
 channel-answered c w e = let z : _≡_ {A = ℕ} 0 1 = cc in omega arith
@@ -72,7 +73,7 @@ none-answered w e = let z : _≡_ {A = ℕ} 0 1 = cc in omega arith
 -- what is found is no refusal
 found-answered : (r x : Sheet) (t : List ℕ) (n c : ℕ) → Answered (found r x t n c)
 found-answered r x t n c =
-    ⊎-elim (λ w. subst Answered (sym (w .2)) (trace-answered _ _)) (λ w. subst Answered (sym (w .1)) none-answered) (found-view r x t n c)
+    ⊎-elim (λ w. subst Answered (sym (w .2)) (trace-answered _ _ _)) (λ w. subst Answered (sym (w .1)) none-answered) (found-view r x t n c)
 
 back-answered : (r x : Sheet) (t : List ℕ) (n j m : ℕ) → Answered (foundBack r x t n j m)
 back-answered r x t n j m =
@@ -204,23 +205,33 @@ module _ (r s x : Sheet) (t : List ℕ) (n : ℕ) where
   unfolding wayBack
   back-refuses j m w = refused-is _ _ (lines-same j m) (foundBack r x t n j m) (back-answered r x t n j m) w
 
-  pub lookup-once : (c d l m : ℕ) → lookup r s x t n c ≡ trace l m → lookup r s x t n d ≡ trace l m → c ≡ d
-  lookup-once c d l m e f =
-      let a = lookup-is c _ (trace-answered l m) .0 e in
-      let b = lookup-is d _ (trace-answered l m) .0 f in
-      one-trace r s x (a .1 .0) t n c d l m (a .1 .1) (b .1 .1)
+  pub lookup-once : (c d l m : ℕ) (y z : Bool) → lookup r s x t n c ≡ trace l m y → lookup r s x t n d ≡ trace l m z → c ≡ d
+  lookup-once c d l m y z e f =
+      let a = lookup-is c _ (trace-answered l m y) .0 e in
+      let b = lookup-is d _ (trace-answered l m z) .0 f in
+      one-trace r s x (a .1 .0) t n c d l m y z (a .1 .1) (b .1 .1)
 
-  pub there-and-back : (c l m : ℕ) → (lookup r s x t n c ≡ trace l m) ↔ (wayBack r s x t n l m ≡ channel c)
+  pub lookup-marks : (c l m : ℕ) (d : Bool) → lookup r s x t n c ≡ trace l m d → (d ≡ true) ↔ Killed r (l - 1)
+  lookup-marks c l m d e =
+      let a = lookup-is c _ (trace-answered l m d) .0 e in
+      let k = killed-is (pointAt r (l - 1)) in
+      let y = marked r x t n c l m d (a .1 .1) in
+      (λ z. k .0 (sym y ∙ z), λ z. y ∙ k .1 z)
+
+  pub there-and-back : (c l m : ℕ) → ((d : Bool) × (lookup r s x t n c ≡ trace l m d)) ↔ (wayBack r s x t n l m ≡ channel c)
   there-and-back c l m = (
-    λ e.
-        let a = lookup-is c _ (trace-answered l m) .0 e in
-        let v = traced-range r s x (a .1 .0) t n c l m (a .1 .1) in
+    λ w.
+        let d = w .0 in
+        let a = lookup-is c _ (trace-answered l m d) .0 (w .1) in
+        let v = traced-range r s x (a .1 .0) t n c l m d (a .1 .1) in
         back-is l m _ (channel-answered c) .1
-        ((a .0 .0, ((v .0, v .1 .0), v .1 .1)), (a .1 .0, back-trace r s x (a .1 .0) t n c l m (a .1 .1))),
+        ((a .0 .0, ((v .0, v .1 .0), v .1 .1)), (a .1 .0, back-trace r s x (a .1 .0) t n c l m d (a .1 .1))),
     λ e.
-        let a = back-is l m _ (channel-answered c) .0 e in
-        lookup-is c _ (trace-answered l m) .1
-        ((a .0 .0, back-range r s x (a .1 .0) t n c l m (a .1 .1)), (a .1 .0, trace-back r s x (a .1 .0) t n c l m (a .1 .1))),
+        let a = back-is l m _ (channel-answered c) .0 e in (
+          isKilled (pointAt r (l - 1)),
+          lookup-is c _ (trace-answered l m _) .1
+              ((a .0 .0, back-range r s x (a .1 .0) t n c l m (a .1 .1)), (a .1 .0, trace-back r s x (a .1 .0) t n c l m (a .1 .1))),
+        ),
   )
 
   pub lookup-none : (c : ℕ)
@@ -243,7 +254,8 @@ module _ (r s x : Sheet) (ok : Meets r s x) (asks : Askable x) where
   pub lookup-leads : (k c : ℕ) → k < x .count → Data x k → Carries (reachAt x k) c
       → (j : ℕ) × (j < r .count) × Receiver r (reachAt x k) (leads (reachAt x k) c) j
       × ((i : ℕ) → i < r .count → Receiver r (reachAt x k) (leads (reachAt x k) c) i → i ≡ j)
-      × (lookup r s x (reachAt x k .tape) (reachAt x k .number) c ≡ trace (j + 1) (component (reachAt x k) c))
+      × (lookup r s x (reachAt x k .tape) (reachAt x k .number) c ≡ trace (j + 1) (component (reachAt x k) c) (isKilled (pointAt r j)))
+  unfolding leadsToKilled
   lookup-leads k c h z f =
       let q = reachAt x k in
       let w = sound r s x ok k h z in
@@ -256,6 +268,6 @@ module _ (r s x : Sheet) (ok : Meets r s x) (asks : Askable x) where
         v .0,
         v .1,
         (λ i l y. sym (receiver-line r (ok .rule10) q (leads q c) i l y)),
-        lookup-is r s x (q .tape) (q .number) c _ (trace-answered _ _) .1
+        lookup-is r s x (q .tape) (q .number) c _ (trace-answered _ _ _) .1
             ((asks k h z, (omega arith, omega arith)), (ok, found-trace r s x ok (q .tape) (q .number) c k h (z, (refl, refl)) f)),
       )

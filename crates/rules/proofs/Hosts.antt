@@ -38,9 +38,9 @@ use Rattle.rules.proofs.Listed.{Only, run-only, rules-listed, asked-lis
 use Rattle.rules.proofs.ListedSizes.{listed-within}
 
 abbrev pub Sized : Answer → Type 0
-Sized (accepted a b c t) = t < 2 ^ 40
+Sized (accepted a b c t d) = t < 2 ^ 40
 Sized (refusal w) = Listed w
-Sized (trace l m) = (l ≤ 9999) × ((1 ≤ m) × (m ≤ 9))
+Sized (trace l m d) = (l ≤ 9999) × ((1 ≤ m) × (m ≤ 9))
 Sized (channel c) = (1 ≤ c) × (c ≤ 9999)
 Sized (highest c) = c ≤ 9999
 Sized (headerLine l) = l ≤ 9999
@@ -57,9 +57,12 @@ refusal-parts n f l c w =
     let d = v .1 .1 .1 in
     (omega arith, (omega arith, (omega arith, omega arith)))
 
-pub trace-parts : (l m : ℕ) → m ≤ 9 → (hostNumber (trace l m) / 16 ≡ l) × (hostNumber (trace l m) % 16 ≡ m)
-unfolding hostNumber
-trace-parts l m h = (omega arith, omega arith)
+pub trace-parts : (l m : ℕ) (d : Bool) → l ≤ 9999 → m ≤ 9
+    → (hostNumber (trace l m d) / 2 ^ 32 ≡ pick d 1 0)
+    × ((hostNumber (trace l m d) % 2 ^ 32 / 16 ≡ l) × (hostNumber (trace l m d) % 16 ≡ m))
+unfolding hostNumber pick
+trace-parts l m true g h = (omega arith, (omega arith, omega arith))
+trace-parts l m false g h = (omega arith, (omega arith, omega arith))
 
 refusal-above : (w : Refusal) → Listed w → 2 ^ 40 ≤ packed w
 unfolding packed
@@ -71,13 +74,17 @@ below : (a : Answer) → hostNumber a < 2 ^ 40 → ((w : Refusal) → a ≡ refu
 below a l n = (λ h. absurd (omega arith), λ w. absurd (n (w .0) (w .1)))
 
 pub tells : (a : Answer) → Sized a → (2 ^ 40 ≤ hostNumber a) ↔ ((w : Refusal) × (a ≡ refusal w))
-unfolding hostNumber
-tells (accepted a b c t) z = below (accepted a b c t) z (λ w e. let y : _≡_ {A = ℕ} 0 1 = cc in omega arith)
+unfolding hostNumber pick
+tells (accepted a b c t d) z = below (accepted a b c t d) z (λ w e. let y : _≡_ {A = ℕ} 0 1 = cc in omega arith)
 tells (refusal w) z = (λ _. (w, refl), λ _. refusal-above w z)
-tells (trace l m) z =
+tells (trace l m true) z =
     let p = z .0 in
     let q = z .1 .1 in
-    below (trace l m) (omega arith) (λ w e. let y : _≡_ {A = ℕ} 0 1 = cc in omega arith)
+    below (trace l m true) (omega arith) (λ w e. let y : _≡_ {A = ℕ} 0 1 = cc in omega arith)
+tells (trace l m false) z =
+    let p = z .0 in
+    let q = z .1 .1 in
+    below (trace l m false) (omega arith) (λ w e. let y : _≡_ {A = ℕ} 0 1 = cc in omega arith)
 tells (channel c) z = let p = z .1 in below (channel c) (omega arith) (λ w e. let y : _≡_ {A = ℕ} 0 1 = cc in omega arith)
 tells (highest c) z = below (highest c) (omega arith) (λ w e. let y : _≡_ {A = ℕ} 0 1 = cc in omega arith)
 tells (headerLine l) z = below (headerLine l) (omega arith) (λ w e. let y : _≡_ {A = ℕ} 0 1 = cc in omega arith)
@@ -149,7 +156,7 @@ module _ (M : Medium) (g : Lawful M) where
           question-sized _ _
           (λ ok.
           ⊎-elim
-          (λ w. let v = traced-range (file r) (file s) (file x) ok t n c _ _ (w .2) in subst Sized (sym (w .2)) (v .1))
+          (λ w. let v = traced-range (file r) (file s) (file x) ok t n c _ _ _ (w .2) in subst Sized (sym (w .2)) (v .1))
           (λ w. subst Sized (sym (w .1)) tt) (found-view (file r) (file x) t n c))
 
       pub back-sized : (j m : ℕ) → Sized (wayBack (file r) (file s) (file x) t n j m)

@@ -27,6 +27,8 @@ pub mod Medium
 pub mod Media
 pub mod Disc
 pub mod Tape
+pub mod Which
+pub mod Dead
 pub mod Counts
 pub mod Turns
 pub mod Spreads
@@ -35,3 +37,4 @@ pub mod ListedSizes
 pub mod Listed
 pub mod Hosts
 pub mod Table
+pub mod TableRequests

@@ -1,7 +1,7 @@
 -- The tests of refusals 10 to 19 say what `MeetsSet` has in words, and fail where its breaches are.
 use Prim.Native.Nat.{ℕ, suc, _+_, _≤_, _<_}
 use native.Mathlib.Omega.{arith}
-use mathlib.Core.Path.{_≡_, sym, _∙_}
+use mathlib.Core.Path.{_≡_, refl, sym, _∙_}
 use mathlib.Core.Logic.{_↔_, _⊎_, inl, inr, ⊎-elim, Iff·rfl, Iff·trans}
 use mathlib.Core.Bool.{Bool, true, not, _&&_, _||_}
 use mathlib.Core.List.{List}
@@ -12,18 +12,18 @@ use Rattle.rules.specs.Names.{Name}
 use Rattle.rules.specs.Layout.{letterColumn}
 use Rattle.rules.specs.Sheet.{Sheet}
 use Rattle.rules.specs.Lines.{isData}
-use Rattle.rules.specs.Points.{Point as PointValues, pointAt, isAt, samePoint}
+use Rattle.rules.specs.Points.{Point as PointValues, State, live, killed, marker, isDead, pointAt, isAt, samePoint, isKilled}
 use Rattle.rules.specs.Relations.{Reach, Relation, reachAt, relationAt}
 use Rattle.rules.specs.Reaches.{reachesOf, ofRecord, mates, together, rises, once}
-use Rattle.rules.specs.Order.{earlier, isPointAt, lineOfPoint, shotLine, names, sameShot, receiversThere}
+use Rattle.rules.specs.Order.{earlier, isPointAt, isLive, isShotOf, lineOfPoint, shotLine, names, sameShot, receiversThere}
 use Rattle.rules.specs.Order.{rule10, rule11, rule12, rule13, rule14, rule15, rule16, rule17, rule18, rule19}
-use Rattle.rules.specs.MeetsForm.{Data}
+use Rattle.rules.specs.MeetsForm.{Data, Point}
 use Rattle.rules.specs.MeetsCover.{Covers}
-use Rattle.rules.specs.MeetsSet.{Earlier, At, PointAt, Shot, Receiver, OfRecord, Mates, SameShot, Rule10, Rule11, Rule12, Rule13, Rule14, Rule15}
+use Rattle.rules.specs.MeetsSet.{Earlier, At, PointAt, Killed, Shot, Receiver, OfRecord, Mates, SameShot, Rule10, Rule11, Rule12, Rule13, Rule14, Rule15}
 use Rattle.rules.specs.MeetsSet.{Rule16, Rule17, Rule18, Rule19, Breach10, Breach11, Breach12, Breach13, Breach14, Breach15, Breach16, Breach17}
 use Rattle.rules.specs.MeetsSet.{Breach18, Breach19}
 use Rattle.rules.specs.Refuses.{by}
-use Rattle.rules.proofs.Tests.{says, and-is, or-is, not-is, imp-is, eqb-is, ltb-is, yes-no, some-is, every-is, if-before-is, is-before-is}
+use Rattle.rules.proofs.Tests.{says, clash, and-is, or-is, not-is, imp-is, eqb-is, ltb-is, yes-no, some-is, every-is, if-before-is, is-before-is}
 use Rattle.rules.proofs.Contrary.{fails, contrary, not-and, not-every, not-imp, not-if-before}
 use Rattle.rules.proofs.Least.{least-first, least-there}
 use Rattle.rules.proofs.Breach.{Met, Broken}
@@ -91,23 +91,40 @@ shots-are s = (
 )
 
 -- 13
+pub killed-is : (v : PointValues) → (isKilled v ≡ true) ↔ (v .state ≡ killed)
+unfolding isKilled
+killed-is v = go (v .state)
+  where
+    go : (s : State) → (isDead s ≡ true) ↔ (s ≡ killed)
+    go live = (λ e. clash e, λ e. absurd (let z : _≡_ {A = ℕ} 0 1 = cc in omega arith))
+    go killed = (λ e. refl, λ e. refl)
+    go marker = (λ e. clash e, λ e. absurd (let z : _≡_ {A = ℕ} 0 1 = cc in omega arith))
+
+pub live-is : (f : Sheet) (j : ℕ) → (isLive f j ≡ true) ↔ (Point f j × (Killed f j → ⊥))
+unfolding isLive
+live-is f j = simp (says, point-is, killed-is) Iff·rfl
+
+pub shot-of-is : (s : Sheet) (v : Relation) (j : ℕ) → (isShotOf s v j ≡ true) ↔ (Shot s v j × (Killed s j → ⊥))
+unfolding isShotOf
+shot-of-is s v j = simp (says, point-at-is, killed-is) Iff·rfl
+
 pub rule13-is : (s x : Sheet) (k : ℕ) → Met (rule13 s x k) ↔ Rule13 s x k
 unfolding rule13
-rule13-is s x k = simp (says, point-at-is) Iff·rfl
+rule13-is s x k = simp (says, shot-of-is) Iff·rfl
 
 pub rule13-breaks : (s x : Sheet) (k : ℕ)
-    → (some (s .count) (isPointAt s (relationAt x k .source) (relationAt x k .shot) (relationAt x k .shotIndex)) ≡ true → ⊥) ↔ Breach13 s x k
-rule13-breaks s x k = simp (fails, point-at-is) Iff·rfl
+    → (some (s .count) (isShotOf s (relationAt x k)) ≡ true → ⊥) ↔ Breach13 s x k
+rule13-breaks s x k = simp (fails, shot-of-is) Iff·rfl
 
 -- 15
 pub rule15-is : (s x : Sheet) (k : ℕ) → Met (rule15 s x k) ↔ Rule15 s x k
 unfolding rule15 names
-rule15-is s x k = simp (says, point-is, data-is, at-is) Iff·rfl
+rule15-is s x k = simp (says, live-is, data-is, at-is) Iff·rfl
 
 pub rule15-breaks : (s x : Sheet) (k : ℕ) (w : Refusal)
     → Broken w (rule15 s x k) ↔ by (Breach15 s x k) (№ 15 fileS (k + 1) letterColumn) w
 unfolding rule15 names
-rule15-breaks s x k = when-breaks _ _ _ (point-is s k) (simp (fails, and-is, data-is, at-is) Iff·rfl)
+rule15-breaks s x k = when-breaks _ _ _ (live-is s k) (simp (fails, and-is, data-is, at-is) Iff·rfl)
 
 -- 16
 pub of-record-is : (t : List ℕ) (n : ℕ) (q : Reach) → (ofRecord t n q ≡ true) ↔ OfRecord t n q

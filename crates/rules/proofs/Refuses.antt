@@ -119,9 +119,9 @@ module _ (s x : Sheet) (rule12 : (k : ℕ) → k < s .count → Rule12 s k) (k :
         rise-is .1
         (λ j n y.
         let a = just j n y in
-        let ea = line (relationAt x j) (a .0) (a .1) (a .2) in
-        let eb = line (relationAt x k) (here .0) (here .1) (here .2) in
-        let le = g j n y (a .0) (here .0) (a .1) (here .1) (a .2) (here .2) in
+        let ea = line (relationAt x j) (a .0) (a .1) (a .2 .0) in
+        let eb = line (relationAt x k) (here .0) (here .1) (here .2 .0) in
+        let le = g j n y (a .0) (here .0) (a .1) (here .1) (a .2 .0) (here .2 .0) in
         omega arith),
   )
 
@@ -131,9 +131,9 @@ module _ (s x : Sheet) (rule12 : (k : ℕ) → k < s .count → Rule12 s k) (k :
         let f = fall-is .0 e in
         let a = just (f .0) (f .1) (f .2 .0) in
         let l = f .2 .1 in
-        let ea = line (relationAt x (f .0)) (a .0) (a .1) (a .2) in
-        let eb = line (relationAt x k) (here .0) (here .1) (here .2) in
-        (f .0, f .1, f .2 .0, (a .0, here .0, a .1, here .1, a .2, here .2, omega arith)),
+        let ea = line (relationAt x (f .0)) (a .0) (a .1) (a .2 .0) in
+        let eb = line (relationAt x k) (here .0) (here .1) (here .2 .0) in
+        (f .0, f .1, f .2 .0, (a .0, here .0, a .1, here .1, a .2 .0, here .2 .0, omega arith)),
     λ b e.
         let y = b .3 in
         let p = rise-is .0 e (b .0) (b .1) (b .2) in

@@ -1,8 +1,9 @@
 -- "The (p) cases form a single proved table over the rules as defined": each row marked (p), on set A built from its description; then tapes,
--- coordinates without a point, lines laid out backwards, and code tables.
+-- coordinates without a point, and lines laid out backwards.
 use Prim.Native.Nat.{ℕ}
 use Prim.Native.String.{String}
 use mathlib.Core.Path.{_≡_, refl}
+use mathlib.Core.Bool.{false}
 use mathlib.Core.List.{List, [], _∷_, _++_}
 use lib.IntN.{pos}
 use Rattle.rules.specs.Places
@@ -34,15 +35,14 @@ use Rattle.rules.specs.Spread
 use Rattle.rules.specs.Hosts
 use Rattle.rules.specs.Text.{bytes}
 use Rattle.rules.specs.Disc.{file}
-use Rattle.rules.specs.Plan.{№, fileR, fileS, fileX}
-use Rattle.rules.specs.Check.{Answer, accepted, refusal, trace, headerLine, noTrace, check}
+use Rattle.rules.specs.Plan.{№, fileR, fileX}
+use Rattle.rules.specs.Check.{Answer, accepted, refusal, trace, noTrace, check}
 use Rattle.rules.specs.Lookup.{lookup}
-use Rattle.rules.specs.Tables.{tableLine}
 use Rattle.rules.specs.Layout.{sps93}
 use Rattle.rules.specs.Points.{point}
 use Rattle.rules.specs.Medium.{sheet}
 use Rattle.rules.specs.Tape.{tape}
-use Rattle.rules.specs.SetA.{types, codeHeader, headers, put, pointLine, rOf, xOf, rA, sA, xA, lineA, relationLine, eof, tapeOf}
+use Rattle.rules.specs.SetA.{headers, put, pointLine, rOf, xOf, rA, sA, xA, lineA, relationLine, eof, tapeOf}
 
 abbrev checkA : List ℕ → List ℕ → List ℕ → Answer
 checkA r s x = check (file r) (file s) (file x)
@@ -75,13 +75,6 @@ xDown = xOf (relationLine "     501" "   1   31" "L1" "     103     101")
 abbrev checkWith : ℕ → String → Answer
 checkWith c t = checkA (headers ++ lineWith c t) sA (xOf (relationLine "     501" "   1   11" "L1" "     101     101"))
 
--- one receiver, shot and relation line with those codes and instrument, under the tables of 1 and V1 and some more
-abbrev coded : String → String → String → List ℕ → Answer
-coded g v i more =
-    let h = types ++ (codeHeader 400 "1," ++ (codeHeader 700 "V1" ++ more)) in
-    checkA (h ++ pointLine "R" "L1" "     101" g) (h ++ pointLine "S" "L1" "     501" v)
-    (h ++ put 13 (bytes i) (relationLine "     501" "   1   11" "L1" "     101     101"))
-
 pub table :
     lookupA xA 11 2
     ∷ lookupA xA 12 2
@@ -104,48 +97,28 @@ pub table :
     ∷ checkWith 33 "1000"
     ∷ lookupA xDown 11 1
     ∷ checkA rA sA (xOf (relationLine "     501" "   1   41" "L1" "     103     101"))
-    ∷ checkA rA sA (xOf (lineA ++ relationLine "     501" "   4   61" "L1" "     103     101"))
-    ∷ coded "G2" "V1" "1" (codeHeader 600 "G1")
-    ∷ coded "G1" "V2" "1" (codeHeader 600 "G1")
-    ∷ coded "G1" "V1" "2" (codeHeader 600 "G1")
-    ∷ coded "G1" "V1" "1" (codeHeader 600 "G1" ++ codeHeader 610 "G1")
-    ∷ coded "G1" "V1" "2" (codeHeader 610 "G1" ++ codeHeader 560 "2,")
-    ∷ coded "G1" "V1" "1" (codeHeader 601 "G1")
-    ∷ coded "KL" "V1" " " (codeHeader 700 "G1")
-    ∷ tableLine (file rA) (file sA) (file xA) 82 (bytes "G1")
-    ∷ tableLine (file rA) (file sA) (file xA) 88 (bytes "2")
-    ∷ tableLine (file rA) (file sA) (file xA) 83 (bytes "KL") ∷ []
-    ≡ trace 26 1
+    ∷ checkA rA sA (xOf (lineA ++ relationLine "     501" "   4   61" "L1" "     103     101")) ∷ []
+    ≡ trace 26 1 false
     ∷ noTrace
-    ∷ accepted 3 1 1 9
-    ∷ trace 26 3
+    ∷ accepted 3 1 1 9 0
+    ∷ trace 26 3 false
     ∷ refusal (№ 6 fileX 25 72)
     ∷ refusal (№ 6 fileX 25 47)
     ∷ refusal (№ 18 fileX 25 64)
     ∷ refusal (№ 10 fileR 27 2)
     ∷ refusal (№ 18 fileX 25 64)
-    ∷ accepted 3 1 1 3
+    ∷ accepted 3 1 1 3 0
     ∷ refusal (№ 17 fileX 26 39)
     ∷ refusal (№ 19 fileX 26 64)
-    ∷ accepted 2 1 1 1
-    ∷ accepted 3 1 1 3
+    ∷ accepted 2 1 1 1 0
+    ∷ accepted 3 1 1 3 0
     ∷ refusal (№ 29 fileX 27 0)
     ∷ refusal (№ 10 fileR 26 2)
-    ∷ accepted 1 1 1 1
+    ∷ accepted 1 1 1 1 0
     ∷ refusal (№ 5 fileR 25 33)
-    ∷ trace 27 1
+    ∷ trace 27 1 false
     ∷ refusal (№ 6 fileX 25 72)
-    ∷ refusal (№ 19 fileX 26 64)
-    ∷ refusal (№ 25 fileR 25 27)
-    ∷ refusal (№ 25 fileS 25 27)
-    ∷ refusal (№ 25 fileX 25 13)
-    ∷ refusal (№ 24 fileR 25 33)
-    ∷ accepted 1 1 1 1
-    ∷ refusal (№ 25 fileR 25 27)
-    ∷ accepted 1 1 1 1
-    ∷ headerLine 23
-    ∷ headerLine 0
-    ∷ refusal (№ 20 0 0 0) ∷ []
+    ∷ refusal (№ 19 fileX 26 64) ∷ []
 unfolding Places.pick Places.every Places.some Places.least Places.count Places.sum Places.greatest Places.ifBefore Places.isBefore Places.ofLast
     Plan._orElse_ Plan.firstOf Plan.run Text.col Text.front Text.cols Text.same Text.less Text.blank Text.bytes Text.oneOf Numbers.digit
     Numbers.digitsAfter Numbers.digits Numbers.whole Numbers.justified Numbers.negative Numbers.minusOr Numbers.signed Numbers.then Numbers.pointed
@@ -153,16 +126,19 @@ unfolding Places.pick Places.every Places.some Places.least Places.count Places.
     Kinds.family Kinds.isCode Kinds.water Kinds.isTime Kinds.fits Layout.sps93 Layout.at Sheet.mostLines Disc.printable Disc.byteFits Form.strayFrom
     Form.stray Form.ending Form.rule29 Medium.sheet Disc.disc Tape.page Tape.charIn Tape.placeOf Tape.byteIn Tape.tape Names.sameName Names.ranked
     Names.lessName Lines.letter Lines.isHeader Lines.isMarker Lines.isData Lines.isPoint Lines.heads Points.holds Points.nameOf Points.numberOf
-    Points.indexAt Points.point Points.pointAt Points.isAt Points.samePoint Relations.reach Relations.relation Relations.reachAt Relations.relationAt
+    Points.indexAt Points.stateOf Points.point Points.pointAt Points.isAt Points.samePoint Points.isKilled Relations.reach Relations.relation
+    Relations.reachAt Relations.relationAt
     Cover.traces Cover.carries Cover.receivers Cover.receiverOn Cover.onTo Cover.covers Cover.leads Cover.component Cover.channelOf Cover.meet
     Rows.headerRows Rows.pointRows Rows.relationRows Form.rule1 Form.rule2 Form.rule3 Form.rule4 Form.fieldsFit Form.rule5 Form.rule6 Form.lineFits
     Form.form Headers.twoDigits Headers.isType Headers.rule7 Headers.cut Headers.freedBefore Headers.freedAfter Headers.projection Headers.rule8
     Headers.sameColumns Headers.rule9 Codes.tablesOf Codes.threeDigits Codes.opens Codes.names Codes.named Codes.lineNaming Codes.namedBefore
     Codes.rule24 Codes.usedCode Codes.rule25 Codes.codesFit Tables.kindOf Tables.written Tables.codeAsked Tables.tableLine
     Reaches.reachesOf Reaches.ofRecord Reaches.mates Reaches.together Reaches.rises Reaches.once Reaches.search
-    Order.above Order.earlier Order.rule10 Order.rule11 Order.rule12 Order.isPointAt Order.lineOfPoint Order.shotLine Order.receiverLine Order.rule13
+    Order.above Order.earlier Order.rule10 Order.rule11 Order.rule12 Order.isPointAt Order.isLive Order.isShotOf Order.lineOfPoint Order.shotLine
+    Order.receiverLine Order.rule13
     Order.rule14 Order.names Order.rule15 Order.sameShot Order.rule16 Order.rule17 Order.receiversThere Order.rule18 Order.rule19 Check.relationFits
-    Check.rules Check.verdict Check.points Check.relations Check.allTraces Check.answer Check.check Questions.recordAsked Questions.channelAsked
+    Check.rules Check.verdict Check.points Check.relations Check.allTraces Check.leadsToKilled Check.deadOf Check.deadTraces Check.answer Check.check
+    Questions.recordAsked Questions.channelAsked
     Questions.lineAsked Questions.componentAsked Questions.rule20 Lookup.found Lookup.lookup Lookup.reaches Lookup.foundBack Lookup.wayBack
     Spread.highestOf Spread.lineOf Spread.componentOf Spread.turns Spread.rule21 Spread.spreadVerdict Spread.spread Spread.unlessRefused Spread.slice
     Hosts.packed Hosts.hostNumber Hosts.numbersOf
@@ -172,5 +148,5 @@ table = refl
 pub bare-easting : point sps93 (lineWith 47 "003262601") .easting ≡ pos 3262601
 unfolding Places.pick Text.col Text.front Text.cols Text.blank Text.bytes Numbers.digit Numbers.digitsAfter Numbers.digits Numbers.whole Numbers.justified
     Numbers.negative Numbers.minusOr Numbers.signed Numbers.then Numbers.pointed Numbers.decimal Numbers.tenths Numbers.size Numbers.value Kinds.between
-    Kinds.indexOf Kinds.water Layout.sps93 Layout.at Points.holds Points.nameOf Points.numberOf Points.indexAt Points.point
+    Kinds.indexOf Kinds.water Layout.sps93 Layout.at Points.holds Points.nameOf Points.numberOf Points.indexAt Points.stateOf Points.point
 bare-easting = refl

@@ -11,12 +11,12 @@ use borrow.Author.Tests.{lt-ltb, le-ltb}
 use Rattle.rules.specs.Places.{pick}
 use Rattle.rules.specs.Sheet.{Sheet, mostLines}
 use Rattle.rules.specs.Lines.{isPoint}
-use Rattle.rules.specs.Points.{Point as PointValues, pointAt}
+use Rattle.rules.specs.Points.{Point as PointValues, pointAt, isKilled}
 use Rattle.rules.specs.Relations.{Reach, reachAt}
 use Rattle.rules.specs.Cover.{carries, leads, component, channelOf}
 use Rattle.rules.specs.Reaches.{reachesOf, search}
 use Rattle.rules.specs.Order.{receiverLine}
-use Rattle.rules.specs.Check.{Answer, trace, channel, noTrace}
+use Rattle.rules.specs.Check.{Answer, leadsToKilled, trace, channel, noTrace}
 use Rattle.rules.specs.Lookup.{found, foundBack, reaches}
 use Rattle.rules.specs.MeetsCover.{Carries, Reached}
 use Rattle.rules.specs.MeetsSet.{Receiver}
@@ -29,7 +29,7 @@ use Rattle.rules.proofs.Search.{Found, Absent, search-is, search-first}
 use Rattle.rules.proofs.Accepted.{receiver-line, sound, one-channel, one-receiver, receiver-there}
 
 abbrev pub given : Sheet → Reach → ℕ → Answer
-given r q c = trace (receiverLine r q (leads q c) + 1) (component q c)
+given r q c = trace (receiverLine r q (leads q c) + 1) (component q c) (leadsToKilled r q c)
 
 -- a channel: what one relation line that carries it gives, or nothing where none carries it
 pub found-view : (r x : Sheet) (t : List ℕ) (n c : ℕ)
@@ -73,10 +73,10 @@ back-view r x t n j m = go (leb 1 j && (leb j (r .count) && isPoint r (j - 1))) 
         inr ((λ h. w .1), rw (le-ltb _ _ l, and-false))
 
 -- what an answer tells
-pub traced : (r x : Sheet) (t : List ℕ) (n c l m : ℕ) → found r x t n c ≡ trace l m
+pub traced : (r x : Sheet) (t : List ℕ) (n c l m : ℕ) (d : Bool) → found r x t n c ≡ trace l m d
     → (k : ℕ) × Found x t n (λ q. carries q c) k × (receiverLine r (reachAt x k) (leads (reachAt x k) c) + 1 ≡ l)
     × (component (reachAt x k) c ≡ m)
-traced r x t n c l m e =
+traced r x t n c l m d e =
     ⊎-elim (λ w. let f = w .2 in (w .0, w .1, (cc), (cc)))
     (λ w. let f = w .1 in let z : _≡_ {A = ℕ} 0 1 = cc in absurd (omega arith)) (found-view r x t n c)
 
@@ -85,6 +85,19 @@ pub returned : (r x : Sheet) (t : List ℕ) (n c j m : ℕ) → foundBack r x t 
 returned r x t n c j m e =
     ⊎-elim (λ w. let f = w .1 .2 in (w .0, (w .1 .0, w .1 .1, (cc))))
     (λ w. let f = w .1 in let z : _≡_ {A = ℕ} 0 1 = cc in absurd (omega arith)) (back-view r x t n j m)
+
+-- the mark is that of the receiver line that is answered
+pub marked : (r x : Sheet) (t : List ℕ) (n c l m : ℕ) (d : Bool) → found r x t n c ≡ trace l m d → d ≡ isKilled (pointAt r (l - 1))
+unfolding leadsToKilled
+marked r x t n c l m d e =
+    ⊎-elim
+    (λ w.
+    let f = w .2 in
+    let j = receiverLine r (reachAt x (w .0)) (leads (reachAt x (w .0)) c) in
+    let y : j + 1 ≡ l = cc in
+    let z : isKilled (pointAt r j) ≡ d = cc in
+    sym z ∙ ap (λ (i : ℕ). isKilled (pointAt r i)) (let q : j ≡ l - 1 = omega arith in q))
+    (λ w. let f = w .1 in let z : _≡_ {A = ℕ} 0 1 = cc in absurd (omega arith)) (found-view r x t n c)
 
 -- no trace, exactly where no line carries the channel; no way back, exactly where none leads to the receiver
 pub not-carried : (r x : Sheet) (t : List ℕ) (n c : ℕ)
@@ -146,8 +159,8 @@ module _ (r s x : Sheet) (ok : Meets r s x) (t : List ℕ) (n : ℕ) where
         ),
       )
 
-  arrives : (c l m : ℕ) → found r x t n c ≡ trace l m → Arrives c l m
-  arrives c l m e = let w = traced r x t n c l m e in arrive c l m (w .0) (w .1) (w .2) (w .3)
+  arrives : (c l m : ℕ) (d : Bool) → found r x t n c ≡ trace l m d → Arrives c l m
+  arrives c l m d e = let w = traced r x t n c l m d e in arrive c l m (w .0) (w .1) (w .2) (w .3)
 
   one-leads : (k j m d : ℕ) (p : PointValues) → k < x .count → j < x .count → Of x t n k → Of x t n j
       → Leads p m (reachAt x k) → Leads p d (reachAt x j) → k ≡ j
@@ -155,18 +168,18 @@ module _ (r s x : Sheet) (ok : Meets r s x) (t : List ℕ) (n : ℕ) where
       one-receiver r s x ok t n k j (p .number) hk hj a b (e .0 ∙ sym (f .0)) (e .1 .0 ∙ sym (f .1 .0)) (e .1 .1 .0) (f .1 .1 .0)
 
   -- two channels never share a receiver and component
-  pub one-trace : (c d l m : ℕ) → found r x t n c ≡ trace l m → found r x t n d ≡ trace l m → c ≡ d
-  one-trace c d l m e f =
-      let a = arrives c l m e .1 in
-      let b = arrives d l m f .1 in
+  pub one-trace : (c d l m : ℕ) (y z : Bool) → found r x t n c ≡ trace l m y → found r x t n d ≡ trace l m z → c ≡ d
+  one-trace c d l m y z e f =
+      let a = arrives c l m y e .1 in
+      let b = arrives d l m z f .1 in
       let i = one-leads (a .0) (b .0) m m (pointAt r (l - 1)) (a .1) (b .1) (a .2) (b .2) (a .3) (b .3) in
       sym (a .4) ∙ ap (λ (k : ℕ). channelOf (reachAt x k) (pointAt r (l - 1) .number) m) i ∙ b .4
 
   -- there and back
-  pub back-trace : (c l m : ℕ) → found r x t n c ≡ trace l m → foundBack r x t n l m ≡ channel c
+  pub back-trace : (c l m : ℕ) (d : Bool) → found r x t n c ≡ trace l m d → foundBack r x t n l m ≡ channel c
   unfolding foundBack pick
-  back-trace c l m e =
-      let a = arrives c l m e in
+  back-trace c l m d e =
+      let a = arrives c l m d e in
       let b = a .1 in
       let p = pointAt r (l - 1) in
       let i : search (reachesOf x) t n (reaches p m) ≡ b .0 =
@@ -177,7 +190,8 @@ module _ (r s x : Sheet) (ok : Meets r s x) (t : List ℕ) (n : ℕ) where
       omega arith) in
       rw (i, stands-is r l .1 (a .0), lt-ltb _ _ (b .1), b .4)
 
-  pub trace-back : (c l m : ℕ) → foundBack r x t n l m ≡ channel c → found r x t n c ≡ trace l m
+  pub trace-back : (c l m : ℕ) → foundBack r x t n l m ≡ channel c → found r x t n c ≡ trace l m (isKilled (pointAt r (l - 1)))
+  unfolding leadsToKilled
   trace-back c l m e =
       let w = returned r x t n c l m e in
       let k = w .1 .0 in
@@ -194,11 +208,13 @@ module _ (r s x : Sheet) (ok : Meets r s x) (t : List ℕ) (n : ℕ) where
       let j : receiverLine r q (p .number) ≡ l - 1 =
       receiver-line r (ok .rule10) q (p .number) (l - 1) (omega arith) (w .0 .1 .1, (sym (h .0), (refl, sym (h .1 .0)))) in
       found-trace c k (f .0) (f .1 .0) (subst (Carries q) g (carried _ q y (p .number) m (h .1 .1)))
-      ∙ ap₂ trace (ap (λ (n : ℕ). receiverLine r q n + 1) no ∙ (let z : receiverLine r q (p .number) + 1 ≡ l = omega arith in z)) co
+      ∙ ap₂ (λ (y m : ℕ). trace y m (isKilled (pointAt r (receiverLine r q (leads q c)))))
+      (ap (λ (n : ℕ). receiverLine r q n + 1) no ∙ (let z : receiverLine r q (p .number) + 1 ≡ l = omega arith in z)) co
+      ∙ ap (λ (i : ℕ). trace l m (isKilled (pointAt r i))) (ap (receiverLine r q) no ∙ j)
 
-  pub traced-range : (c l m : ℕ) → found r x t n c ≡ trace l m → (1 ≤ l) × ((l ≤ mostLines) × ((1 ≤ m) × (m ≤ 9)))
-  traced-range c l m e =
-      let a = arrives c l m e in
+  pub traced-range : (c l m : ℕ) (d : Bool) → found r x t n c ≡ trace l m d → (1 ≤ l) × ((l ≤ mostLines) × ((1 ≤ m) × (m ≤ 9)))
+  traced-range c l m d e =
+      let a = arrives c l m d e in
       let b = a .1 in
       let w = sound r s x ok (b .0) (b .1) (b .2 .0) .few in
       let u = a .0 .1 .0 in

@@ -4,18 +4,22 @@
 --   points f         = how many receivers or shots
 --   relations x      = how many relation lines
 --   allTraces x      = the sum of T - F + 1
+--   deadOf r q       = how many channels of a relation line lead to a killed receiver
+--   deadTraces r x   = their sum
 --   check r s x      = the answer to the set check
-use Prim.Native.Nat.{ℕ}
+use Prim.Native.Nat.{ℕ, _+_}
+use mathlib.Core.Bool.{Bool}
 use Rattle.rules.specs.Places.{pick, count, sum}
 use Rattle.rules.specs.Plan.{Refusal, Verdict, fine, refused, Plan, fileR, fileS, fileX, _before_, upTo, when, run}
 use Rattle.rules.specs.Sheet.{Sheet}
 use Rattle.rules.specs.Lines.{isData, isPoint, heads}
-use Rattle.rules.specs.Relations.{reachAt}
-use Rattle.rules.specs.Cover.{traces}
+use Rattle.rules.specs.Points.{pointAt, isKilled}
+use Rattle.rules.specs.Relations.{Reach, reachAt}
+use Rattle.rules.specs.Cover.{traces, leads}
 use Rattle.rules.specs.Form.{form}
 use Rattle.rules.specs.Headers.{rule7, rule8, rule9}
 use Rattle.rules.specs.Codes.{codesFit}
-use Rattle.rules.specs.Order.{rule10, rule11, rule12, rule13, rule14, rule15, rule16, rule17, rule18, rule19}
+use Rattle.rules.specs.Order.{receiverLine, rule10, rule11, rule12, rule13, rule14, rule15, rule16, rule17, rule18, rule19}
 
 -- 13, 14, 16, 17, 18, 19 of line k of X
 unfoldable pub relationFits : Sheet → Sheet → Sheet → ℕ → Plan
@@ -45,11 +49,21 @@ relations x = count (x .count) (isData x)
 unfoldable pub allTraces : Sheet → ℕ
 allTraces x = sum (x .count) (λ k. pick (isData x k) (traces (reachAt x k)) 0)
 
+-- "A killed receiver holds a channel; its trace is dead."
+unfoldable pub leadsToKilled : Sheet → Reach → ℕ → Bool
+leadsToKilled r q c = isKilled (pointAt r (receiverLine r q (leads q c)))
+
+unfoldable pub deadOf : Sheet → Reach → ℕ
+deadOf r q = count (traces q) (λ c. leadsToKilled r q (q .from + c))
+
+unfoldable pub deadTraces : Sheet → Sheet → ℕ
+deadTraces r x = sum (x .count) (λ k. pick (isData x k) (deadOf r (reachAt x k)) 0)
+
 -- what a call answers
 pub data Answer : Type 0 where
-  accepted : (receivers shots relations traces : ℕ) → Answer
+  accepted : (receivers shots relations traces dead : ℕ) → Answer
   refusal : Refusal → Answer
-  trace : (line component : ℕ) → Answer
+  trace : (line component : ℕ) → (killed : Bool) → Answer
   channel : ℕ → Answer
   highest : ℕ → Answer
   headerLine : ℕ → Answer
@@ -60,4 +74,4 @@ answer fine a = a
 answer (refused w) a = refusal w
 
 unfoldable pub check : Sheet → Sheet → Sheet → Answer
-check r s x = let a = accepted (points r) (points s) (relations x) (allTraces x) in answer (verdict r s x) a
+check r s x = let a = accepted (points r) (points s) (relations x) (allTraces x) (deadTraces r x) in answer (verdict r s x) a

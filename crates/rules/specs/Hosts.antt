@@ -4,6 +4,7 @@
 --   numbersOf b    = the 16-bit numbers of a byte slice, low byte first; a last odd byte is no place
 use Prim.Native.Nat.{ℕ, _+_, _*_, _^_}
 use mathlib.Core.List.{List, [], _∷_}
+use Rattle.rules.specs.Places.{pick}
 use Rattle.rules.specs.Plan.{Refusal, №}
 use Rattle.rules.specs.Check.{Answer, accepted, refusal, trace, channel, highest, headerLine, noTrace}
 
@@ -11,9 +12,9 @@ unfoldable pub packed : Refusal → ℕ
 packed (№ n f l c) = n * 2 ^ 40 + f * 2 ^ 32 + l * 256 + c
 
 unfoldable pub hostNumber : Answer → ℕ
-hostNumber (accepted r s x t) = t
+hostNumber (accepted r s x t d) = t
 hostNumber (refusal w) = packed w
-hostNumber (trace l m) = l * 16 + m
+hostNumber (trace l m d) = l * 16 + m + pick d (2 ^ 32) 0
 hostNumber (channel c) = c
 hostNumber (highest c) = c
 hostNumber (headerLine l) = l

@@ -16,14 +16,14 @@ use Rattle.rules.specs.Relations.{Reach, reachAt}
 use Rattle.rules.specs.Cover.{carries, covers, leads, component, channelOf}
 use Rattle.rules.specs.Reaches.{reachesOf, search}
 use Rattle.rules.specs.Order.{receiverLine}
-use Rattle.rules.specs.Check.{Answer, trace, channel, noTrace, rules, answer}
+use Rattle.rules.specs.Check.{Answer, leadsToKilled, trace, channel, noTrace, rules, answer}
 use Rattle.rules.specs.Questions.{recordAsked, channelAsked, lineAsked, componentAsked, rule20}
 
 unfoldable pub found : Sheet → Sheet → List ℕ → ℕ → ℕ → Answer
 found r x t n c =
     let k = search (reachesOf x) t n (λ q. carries q c) in
     let q = reachAt x k in
-    let a = trace (receiverLine r q (leads q c) + 1) (component q c) in
+    let a = trace (receiverLine r q (leads q c) + 1) (component q c) (leadsToKilled r q c) in
     pick (ltb k (x .count)) a noTrace
 
 unfoldable pub lookup : Sheet → Sheet → Sheet → List ℕ → ℕ → ℕ → Answer

@@ -4,7 +4,8 @@
 --   Meets r s x       = the set meets every rule
 --   Lines f P l       = l are the lines of which P holds, each once, in their order
 --   total g l         = the sum of g over a list
---   Totals r s x a b c d = those are its receivers, shots, relation lines and traces
+--   DeadTrace r x k c = channel c of relation line k leads to a killed receiver
+--   Totals r s x a b c d e = those are its receivers, shots, relation lines, traces and dead traces
 use Prim.Native.Nat.{ℕ, _+_, _<_}
 use mathlib.Core.Path.{_≡_}
 use mathlib.Core.Logic.{_↔_}
@@ -13,11 +14,12 @@ use lib.ListN.{length}
 use Rattle.rules.specs.Plan.{fileR, fileS, fileX}
 use Rattle.rules.specs.Sheet.{Sheet}
 use Rattle.rules.specs.Relations.{reachAt}
-use Rattle.rules.specs.Cover.{traces}
+use Rattle.rules.specs.Cover.{traces, leads}
 use Rattle.rules.specs.MeetsForm.{Data, Point, Formed}
 use Rattle.rules.specs.MeetsHeaders.{Rule7, Rule8, Rule9}
 use Rattle.rules.specs.MeetsCodes.{Rule24, Rule25}
-use Rattle.rules.specs.MeetsSet.{Rule10, Rule11, Rule12, Rule13, Rule14, Rule15, Rule16, Rule17, Rule18, Rule19}
+use Rattle.rules.specs.MeetsCover.{Carries}
+use Rattle.rules.specs.MeetsSet.{Receiver, Killed, Rule10, Rule11, Rule12, Rule13, Rule14, Rule15, Rule16, Rule17, Rule18, Rule19}
 
 abbrev pub Relations : Sheet → (ℕ → Type 0) → Type 0
 Relations x P = (k : ℕ) → k < x .count → Data x k → P k
@@ -55,8 +57,16 @@ abbrev pub total : (ℕ → ℕ) → List ℕ → ℕ
 total g [] = 0
 total g (k ∷ l) = g k + total g l
 
--- "the number of receivers, shots, relation lines and traces (sum of T-F+1)"
-pub record Totals (r s x : Sheet) (a b c d : ℕ) : Type 0 where
+-- "A killed receiver holds a channel; its trace is dead."
+abbrev pub DeadTrace : Sheet → Sheet → ℕ → ℕ → Type 0
+DeadTrace r x k c =
+    Carries (reachAt x k) c × ((j : ℕ) × (j < r .count) × (Receiver r (reachAt x k) (leads (reachAt x k) c) j × Killed r j))
+
+-- "the number of receivers, shots, relation lines and traces (sum of T-F+1)", and "dead traces as a fifth number"
+pub record Totals (r s x : Sheet) (a b c d e : ℕ) : Type 0 where
   pub receivers : (l : List ℕ) × Lines r (Point r) l × (length l ≡ a)
   pub shots : (l : List ℕ) × Lines s (Point s) l × (length l ≡ b)
   pub relations : (l : List ℕ) × Lines x (Data x) l × (length l ≡ c) × (total (λ k. traces (reachAt x k)) l ≡ d)
+  pub dead : (l : List ℕ) × (cs : ℕ → List ℕ) × Lines x (Data x) l
+      × ((k : ℕ) → k < x .count → Data x k → Rising (cs k) × ((c : ℕ) → List·Memᴰ c (cs k) ↔ DeadTrace r x k c))
+      × (total (λ k. length (cs k)) l ≡ e)

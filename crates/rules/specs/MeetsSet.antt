@@ -6,6 +6,7 @@
 --   At n p i v          = the point of that name, number and index
 --   SamePoint v w       = the same name, number and index
 --   PointAt f n p i j   = line j holds it
+--   Killed f j          = line j is killed
 --   Shot s v j          = line j of S holds the shot of a relation
 --   Receiver r q n j    = line j of R holds receiver number n of a reach
 --   NoneBetween f j k   = no receiver or shot stands between lines j and k
@@ -21,7 +22,7 @@ use mathlib.Core.Logic.{_⊎_}
 use mathlib.Core.List.{List, [], _∷_}
 use Rattle.rules.specs.Names.{Name, text, ranked}
 use Rattle.rules.specs.Sheet.{Sheet}
-use Rattle.rules.specs.Points.{Point as PointValues, pointAt}
+use Rattle.rules.specs.Points.{Point as PointValues, pointAt, killed}
 use Rattle.rules.specs.Relations.{Reach, Relation, reachAt, relationAt}
 use Rattle.rules.specs.MeetsForm.{Data, Point}
 use Rattle.rules.specs.MeetsCover.{Covers, Meet}
@@ -50,6 +51,9 @@ SamePoint v w = At (w .name) (w .number) (w .index) v
 
 abbrev pub PointAt : Sheet → Name → ℕ → ℕ → ℕ → Type 0
 PointAt f n p i j = Point f j × At n p i (pointAt f j)
+
+abbrev pub Killed : Sheet → ℕ → Type 0
+Killed f j = pointAt f j .state ≡ killed
 
 abbrev pub Shot : Sheet → Relation → ℕ → Type 0
 Shot s v j = PointAt s (v .source) (v .shot) (v .shotIndex) j
@@ -85,12 +89,12 @@ Rule12 s k = Point s k → (j : ℕ) → j < k → Point s j → SamePoint (poin
 abbrev pub Breach12 : Sheet → ℕ → Type 0
 Breach12 s k = Point s k × ((j : ℕ) × (j < k) × (Point s j × SamePoint (pointAt s k) (pointAt s j)))
 
--- 13: "no shot has the relation's source name, point and index"
+-- 13: "no shot has the relation's source name, point and index"; "13 is also given for a killed shot"
 abbrev pub Rule13 : Sheet → Sheet → ℕ → Type 0
-Rule13 s x k = (j : ℕ) × (j < s .count) × Shot s (relationAt x k) j
+Rule13 s x k = (j : ℕ) × (j < s .count) × (Shot s (relationAt x k) j × (Killed s j → ⊥))
 
 abbrev pub Breach13 : Sheet → Sheet → ℕ → Type 0
-Breach13 s x k = (j : ℕ) → j < s .count → Shot s (relationAt x k) j → ⊥
+Breach13 s x k = (j : ℕ) → j < s .count → Shot s (relationAt x k) j × (Killed s j → ⊥) → ⊥
 
 -- 14: "its shot stands in S before that of the previous relation line"
 abbrev pub Rule14 : Sheet → Sheet → ℕ → Type 0
@@ -103,15 +107,15 @@ Breach14 s x k =
     (j : ℕ) × (suc j ≡ k) × Data x j
     × ((a b : ℕ) × (a < s .count) × (b < s .count) × Shot s (relationAt x j) a × Shot s (relationAt x k) b × (b < a))
 
--- 15: "a shot that no relation line names"
+-- 15: "a shot that no relation line names"; "A killed shot needs no relation line"
 abbrev pub NamedBy : Sheet → Sheet → ℕ → ℕ → Type 0
 NamedBy s x k j = Data x j × At (relationAt x j .source) (relationAt x j .shot) (relationAt x j .shotIndex) (pointAt s k)
 
 abbrev pub Rule15 : Sheet → Sheet → ℕ → Type 0
-Rule15 s x k = Point s k → (j : ℕ) × (j < x .count) × NamedBy s x k j
+Rule15 s x k = Point s k × (Killed s k → ⊥) → (j : ℕ) × (j < x .count) × NamedBy s x k j
 
 abbrev pub Breach15 : Sheet → Sheet → ℕ → Type 0
-Breach15 s x k = Point s k × ((j : ℕ) → j < x .count → NamedBy s x k j → ⊥)
+Breach15 s x k = (Point s k × (Killed s k → ⊥)) × ((j : ℕ) → j < x .count → NamedBy s x k j → ⊥)
 
 -- 16: "an earlier relation line has the same tape and record, and the line just before has not; or it has, and differs in source,
 -- record increment or instrument"

@@ -12,7 +12,7 @@ use Rattle.rules.specs.Names.{Name, sameName, lessName}
 use Rattle.rules.specs.Layout.{letterColumn}
 use Rattle.rules.specs.Sheet.{Sheet}
 use Rattle.rules.specs.Lines.{isData, isPoint}
-use Rattle.rules.specs.Points.{Point, pointAt, isAt, samePoint}
+use Rattle.rules.specs.Points.{Point, pointAt, isAt, samePoint, isKilled}
 use Rattle.rules.specs.Relations.{Reach, Relation, reachAt, relationAt}
 use Rattle.rules.specs.Cover.{receivers, receiverOn}
 use Rattle.rules.specs.Reaches.{reachesOf, mates, together, rises, once}
@@ -57,11 +57,18 @@ shotLine s v = lineOfPoint s (v .source) (v .shot) (v .shotIndex)
 unfoldable pub receiverLine : Sheet → Reach → ℕ → ℕ
 receiverLine r q n = lineOfPoint r (q .receiver) n (q .receiverIndex)
 
--- 13: no shot has the relation's source name, point and index
+-- a receiver or a shot that is not killed
+unfoldable pub isLive : Sheet → ℕ → Bool
+isLive f j = isPoint f j && not (isKilled (pointAt f j))
+
+-- 13: no shot that is not killed has the relation's source name, point and index
+unfoldable pub isShotOf : Sheet → Relation → ℕ → Bool
+isShotOf s v j = isPointAt s (v .source) (v .shot) (v .shotIndex) j && not (isKilled (pointAt s j))
+
 unfoldable pub rule13 : Sheet → Sheet → ℕ → Plan
 rule13 s x k =
     let v = relationAt x k in
-    need (some (s .count) (isPointAt s (v .source) (v .shot) (v .shotIndex))) (№ 13 fileX (k + 1) (x .layout .source .first))
+    need (some (s .count) (isShotOf s v)) (№ 13 fileX (k + 1) (x .layout .source .first))
 
 -- 14: its shot stands in S before that of the previous relation line
 unfoldable pub rule14 : Sheet → Sheet → ℕ → Plan
@@ -69,13 +76,13 @@ rule14 s x k =
     need (ifBefore (λ j. not (isData x j) || leb (shotLine s (relationAt x j)) (shotLine s (relationAt x k))) k)
     (№ 14 fileX (k + 1) (x .layout .source .first))
 
--- 15: a shot that no relation line names
+-- 15: a shot that is not killed and that no relation line names
 unfoldable pub names : Relation → Point → Bool
 names v p = isAt (v .source) (v .shot) (v .shotIndex) p
 
 unfoldable pub rule15 : Sheet → Sheet → ℕ → Plan
 rule15 s x k =
-    when (isPoint s k)
+    when (isLive s k)
     (need (some (x .count) (λ j. isData x j && names (relationAt x j) (pointAt s k))) (№ 15 fileS (k + 1) letterColumn))
 
 -- 16: a record stands apart, or changes its source, record increment or instrument

@@ -1,16 +1,19 @@
 -- The values of a point line.
 --   absent, held v    = a field that may be blank
+--   State             = live, killed (KL), or a marker (PM)
+--   stateOf c         = that of a code
 --   Point             = the values, decimals as signed whole tenths
 --   pointAt f k       = those of line k
 --   isAt n p i v      = the point of that name, number and index
 --   samePoint v w     = the same name, number and index
+--   isKilled v        = a killed point
 use Prim.Native.Nat.{ℕ}
-use mathlib.Core.Bool.{Bool, _&&_}
+use mathlib.Core.Bool.{Bool, true, false, _&&_}
 use mathlib.Core.List.{List}
 use lib.Dec.{eqb}
 use lib.IntN.{ℤ}
 use Rattle.rules.specs.Places.{pick}
-use Rattle.rules.specs.Text.{col, blank}
+use Rattle.rules.specs.Text.{col, same, blank, bytes}
 use Rattle.rules.specs.Numbers.{Number, whole, signed, tenths, size, value}
 use Rattle.rules.specs.Kinds.{indexOf, water}
 use Rattle.rules.specs.Names.{Name, text, sameName}
@@ -24,11 +27,20 @@ pub data Held : Type 0 where
 unfoldable pub holds : (List ℕ → Number) → List ℕ → Held
 holds read bs = pick (blank bs) absent (held (value (read bs)))
 
+pub data State : Type 0 where
+  live : State
+  killed : State
+  marker : State
+
+unfoldable pub stateOf : List ℕ → State
+stateOf c = pick (same c (bytes "PM")) marker (pick (same c (bytes "KL")) killed live)
+
 pub record Point : Type 0 where
   pub name : Name
   pub number : ℕ
   pub index : ℕ
   pub code : List ℕ
+  pub state : State
   pub static : Held
   pub depth : ℤ
   pub datum : ℤ
@@ -57,6 +69,7 @@ point L l =
       number = numberOf l (L .point);
       index = indexAt l (L .index);
       code = at l (L .code);
+      state = stateOf (at l (L .code));
       static = holds signed (at l (L .static));
       depth = value (tenths whole (at l (L .depth)));
       datum = value (signed (at l (L .datum)));
@@ -77,3 +90,11 @@ isAt n p i v = sameName (v .name) n && (eqb (v .number) p && eqb (v .index) i)
 
 unfoldable pub samePoint : Point → Point → Bool
 samePoint v w = isAt (w .name) (w .number) (w .index) v
+
+abbrev pub isDead : State → Bool
+isDead live = false
+isDead killed = true
+isDead marker = false
+
+unfoldable pub isKilled : Point → Bool
+isKilled v = isDead (v .state)

@@ -29,8 +29,8 @@ highestOf x t n =
 
 -- the R line and the component of an answer; 0 and 0 where there is no trace
 unfoldable pub lineOf : Answer → ℕ
-lineOf (trace l m) = l
-lineOf (accepted a b c d) = 0
+lineOf (trace l m d) = l
+lineOf (accepted a b c d e) = 0
 lineOf (refusal w) = 0
 lineOf (channel c) = 0
 lineOf (highest c) = 0
@@ -38,8 +38,8 @@ lineOf (headerLine l) = 0
 lineOf noTrace = 0
 
 unfoldable pub componentOf : Answer → ℕ
-componentOf (trace l m) = m
-componentOf (accepted a b c d) = 0
+componentOf (trace l m d) = m
+componentOf (accepted a b c d e) = 0
 componentOf (refusal w) = 0
 componentOf (channel c) = 0
 componentOf (highest c) = 0

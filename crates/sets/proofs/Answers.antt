@@ -8,17 +8,21 @@ use mathlib.Core.List.{List}
 use Rattle.rules.specs.Plan.{Refusal, Verdict as PaperVerdict, fine, refused, _orElse_, Plan, fileR, fileS, fileX, _before_, upTo, run}
 use Rattle.rules.specs.Sheet.{Sheet}
 use Rattle.rules.specs.Form.{form}
-use Rattle.rules.specs.Check.{Answer as PaperAnswer, accepted, refusal, answer, rules, verdict, points, relations, allTraces, check}
+use Rattle.rules.specs.Check.{Answer as PaperAnswer, accepted, refusal, answer, rules, verdict, points, relations, allTraces, deadTraces, check}
 use Rattle.rules.specs.Lines.{heads}
 use Rattle.rules.specs.Headers.{rule7, rule8, rule9}
 use Rattle.rules.specs.Codes.{codesFit}
+use Rattle.rules.specs.Order.{rule10}
 use Rattle.rules.proofs.Breach.{run-met}
+use Rattle.rules.proofs.Order.{rule10-is}
+use Rattle.rules.proofs.Meets.{verdict-meets}
 use Rattle.rules.proofs.Steps.{before-met, before-broken}
 use Rattle.lines.specs.declared.Reading.{Reading}
 use Rattle.lines.specs.Reading.{sheetOf}
 use Rattle.form.proofs.Known.{known}
 use Rattle.headers.specs.Steps.{headersFit}
-use Rattle.sets.specs.Paper.{formsOf, across, counts, KnownSet}
+use Rattle.dead.specs.Dead.{Accepted}
+use Rattle.sets.specs.Paper.{formsOf, across, counts, KnownSet, Met}
 
 -- refused, and accepted
 pub refuses : (P : Plan) (A : PaperAnswer) (w : Refusal) → refused w ≡ run P → refusal w ≡ answer (run P) A
@@ -29,10 +33,10 @@ pub accepts : (P : Plan) (A : PaperAnswer) → fine ≡ run P → A ≡ answer (
 unfolding answer
 accepts P A e = rw (← e)
 
-pub counted-is : (r s x : Sheet) (n m k t : ℕ) → n ≡ points r → m ≡ points s → k ≡ relations x → t ≡ allTraces x
-    → accepted n m k t ≡ counts r s x
+pub counted-is : (r s x : Sheet) (n m k t y : ℕ) → n ≡ points r → m ≡ points s → k ≡ relations x → t ≡ allTraces x → y ≡ deadTraces r x
+    → accepted n m k t y ≡ counts r s x
 unfolding counts
-counted-is r s x n m k t a b c d = rw (a, b, c, d)
+counted-is r s x n m k t y a b c d e = rw (a, b, c, d, e)
 
 -- parts of a plan that is met
 pub first-met : (p q : Plan) → fine ≡ run (p before q) → fine ≡ run p
@@ -84,5 +88,27 @@ module _ (r s x : Sheet) where
       judged-across a o e =
           e ∙ ap (λ (v : PaperVerdict). answer v (counts r s x)) (before-met _ _ o ∙ before-met _ _ n ∙ before-met _ _ m) ∙ whole-order
 
+  -- all parts are met
+  pub all-met : fine ≡ run (formsOf r s x) → fine ≡ run (headersFit r s x) → fine ≡ run (codesFit r s x) → fine ≡ run (across r s x)
+      → verdict r s x ≡ fine
+  unfolding verdict rules run across headersFit
+  all-met m n o p =
+      sym (regroup (run (form fileR r)) (run (form fileS s)) (run (form fileX x)) (run (rule7 r)) (run (upTo (heads r) (rule8 r)))
+      (run (rule9 fileS r s)) (run (rule9 fileX r x)) (run (codesFit r s x before across r s x)))
+      ∙ sym (p ∙ before-met (codesFit r s x) (across r s x) o ∙ before-met (headersFit r s x) (codesFit r s x before across r s x) n
+      ∙ before-met (formsOf r s x) (headersFit r s x before codesFit r s x before across r s x) m)
+
   pub refused-forms : (w : Refusal) → refused w ≡ run (formsOf r s x) → refusal w ≡ check r s x
   refused-forms w e = refuses _ _ w (before-broken _ _ w e) ∙ whole-order
+
+  -- a set that meets the rules, for the count of its dead traces
+  pub accepted-set : Met r s x → Accepted r x
+  accepted-set w =
+      let m = verdict-meets r s x .0 (w .fine) in
+      record {
+        shots = s;
+        met = m;
+        receivers = (w .known .receivers, sym (run-met (upTo (r .count) (rule10 r)) .1 (rule10-is r .1 (m .rule10))));
+        relations = w .known .relations;
+        alike = w .alike;
+      }

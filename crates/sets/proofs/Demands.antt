@@ -16,7 +16,7 @@ use Rattle.rules.specs.Text.{oneOf}
 use Rattle.rules.specs.Medium.{sheet}
 use Rattle.rules.specs.Disc.{file}
 use Rattle.rules.specs.Tape.{page, charIn, byteIn, tape}
-use Rattle.rules.specs.Check.{accepted, refusal, verdict, answer, points, relations, allTraces, check as checkOf}
+use Rattle.rules.specs.Check.{accepted, refusal, verdict, answer, points, relations, allTraces, deadTraces, check as checkOf}
 use Rattle.rules.specs.Layout.{sps93}
 use Rattle.rules.specs.MeetsForm.{Rule3}
 use Rattle.rules.specs.MeetsDisc.{Clean}
@@ -42,30 +42,37 @@ use Rattle.sets.proofs.check.Statement.{statement}
 use Rattle.sets.proofs.check.Met.{met}
 
 -- an answer is a refusal exactly where the verdict is
-refusal-is : (u : Verdict) (n m k t : ℕ) (w : Refusal) → (answer u (accepted n m k t) ≡ refusal w) ↔ (u ≡ refused w)
+refusal-is : (u : Verdict) (n m k t d : ℕ) (w : Refusal) → (answer u (accepted n m k t d) ≡ refusal w) ↔ (u ≡ refused w)
 unfolding answer
-refusal-is fine n m k t w =
+refusal-is fine n m k t d w =
     (λ e. absurd (let z : _≡_ {A = ℕ} 0 1 = cc in omega arith), λ e. absurd (let z : _≡_ {A = ℕ} 0 1 = cc in omega arith))
-refusal-is (refused u) n m k t w = (λ e. let z : u ≡ w = cc in ap refused z, λ e. let z : u ≡ w = cc in ap refusal z)
+refusal-is (refused u) n m k t d w = (λ e. let z : u ≡ w = cc in ap refused z, λ e. let z : u ≡ w = cc in ap refusal z)
 
 module _ (r s x : Sheet) where
-  when-met : Meets r s x → checkOf r s x ≡ accepted (points r) (points s) (relations x) (allTraces x)
+  when-met : Meets r s x → checkOf r s x ≡ accepted (points r) (points s) (relations x) (allTraces x) (deadTraces r x)
   unfolding checkOf answer
   when-met m = rw (verdict-meets r s x .1 m)
 
   when-broken : (w : Refusal) → (checkOf r s x ≡ refusal w) ↔ Refuses r s x w
   unfolding checkOf
   when-broken w =
-      Iff·trans (refusal-is (verdict r s x) (points r) (points s) (relations x) (allTraces x) w) (verdict-refuses r s x w)
+      Iff·trans (refusal-is (verdict r s x) (points r) (points s) (relations x) (allTraces x) (deadTraces r x) w) (verdict-refuses r s x w)
 
   pub judged : (v : Answer) → paper v ≡ checkOf r s x → Judged r s x v
   judged v e =
       record {
         accepted-when = (
-          λ w. accepted-is r s x (w .0) (w .1) (w .2) (w .3) .0 (sym e ∙ ap paper (w .4)) .0,
-          λ m. (points r, points s, relations x, allTraces x, answer-one v (Accepted (points r) (points s) (relations x) (allTraces x)) (e ∙ when-met m)),
+          λ w. accepted-is r s x (w .0) (w .1) (w .2) (w .3) (w .4) .0 (sym e ∙ ap paper (w .5)) .0,
+          λ m. (
+            points r,
+            points s,
+            relations x,
+            allTraces x,
+            deadTraces r x,
+            answer-one v (Accepted (points r) (points s) (relations x) (allTraces x) (deadTraces r x)) (e ∙ when-met m),
+          ),
         );
-        counts-of = λ n m k t y. accepted-is r s x n m k t .0 (sym e ∙ ap paper y) .1;
+        counts-of = λ n m k t d y. accepted-is r s x n m k t d .0 (sym e ∙ ap paper y) .1;
         refused-when = λ n f l c.
             let b = when-broken (№ n f l c) in
             (λ y. b .0 (sym e ∙ ap paper y), λ y. answer-one v (Refused n f l c) (e ∙ b .1 y));

@@ -1,4 +1,3 @@
-pub mod Alike
 pub mod Answers
 pub mod Across
 pub mod Tally

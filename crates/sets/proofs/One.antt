@@ -14,9 +14,9 @@ use Rattle.sets.proofs.counts.traces as traces
 use Rattle.sets.proofs.counts.traces.Reads as traces-reads
 
 pub answer-one : (a b : Answer) → paper a ≡ paper b → a ≡ b
-answer-one (Accepted n m k t) (Accepted n′ m′ k′ t′) e = cc
-answer-one (Accepted n m k t) (Refused n′ f′ l′ c′) e = cc
-answer-one (Refused n f l c) (Accepted n′ m′ k′ t′) e = cc
+answer-one (Accepted n m k t d) (Accepted n′ m′ k′ t′ d′) e = cc
+answer-one (Accepted n m k t d) (Refused n′ f′ l′ c′) e = cc
+answer-one (Refused n f l c) (Accepted n′ m′ k′ t′ d′) e = cc
 answer-one (Refused n f l c) (Refused n′ f′ l′ c′) e = cc
 
 pub check-one : One check.ended check-reads.Post

@@ -17,24 +17,24 @@ use Rattle.sets.specs.declared.Answer.{Answer}
 use Rattle.sets.specs.declared.Answer.the-variants.{Accepted, Refused}
 use Rattle.sets.specs.Paper.{paper, checkOn}
 
-told-refused : (v : Verdict) (a b c d : ℕ) (w : Refusal) → refusal w ≡ answer v (accepted a b c d) → v ≡ refused w
+told-refused : (v : Verdict) (a b c d y : ℕ) (w : Refusal) → refusal w ≡ answer v (accepted a b c d y) → v ≡ refused w
 unfolding answer
-told-refused fine a b c d w e = absurd (let z : _≡_ {A = ℕ} 0 1 = cc in omega arith)
-told-refused (refused u) a b c d w e = cc
+told-refused fine a b c d y w e = absurd (let z : _≡_ {A = ℕ} 0 1 = cc in omega arith)
+told-refused (refused u) a b c d y w e = cc
 
-told-accepted : (v : Verdict) (a b c d a′ b′ c′ d′ : ℕ) → accepted a b c d ≡ answer v (accepted a′ b′ c′ d′) → v ≡ fine
+told-accepted : (v : Verdict) (a b c d y a′ b′ c′ d′ y′ : ℕ) → accepted a b c d y ≡ answer v (accepted a′ b′ c′ d′ y′) → v ≡ fine
 unfolding answer
-told-accepted fine a b c d a′ b′ c′ d′ e = refl
-told-accepted (refused u) a b c d a′ b′ c′ d′ e = absurd (let z : _≡_ {A = ℕ} 0 1 = cc in omega arith)
+told-accepted fine a b c d y a′ b′ c′ d′ y′ e = refl
+told-accepted (refused u) a b c d y a′ b′ c′ d′ y′ e = absurd (let z : _≡_ {A = ℕ} 0 1 = cc in omega arith)
 
 module _ (how : Reading) (r s x : List ℕ) (v : Answer) (e : paper v ≡ checkOn how r s x) where
-  pub set-accepted : (n m k t : ℕ) → v ≡ Accepted n m k t → verdict (sheetOf how r) (sheetOf how s) (sheetOf how x) ≡ fine
+  pub set-accepted : (n m k t d : ℕ) → v ≡ Accepted n m k t d → verdict (sheetOf how r) (sheetOf how s) (sheetOf how x) ≡ fine
   unfolding check
-  set-accepted n m k t y = told-accepted _ n m k t _ _ _ _ (ap paper (sym y) ∙ e)
+  set-accepted n m k t d y = told-accepted _ n m k t d _ _ _ _ _ (ap paper (sym y) ∙ e)
 
   pub set-refused : (n f l c : ℕ) → v ≡ Refused n f l c → verdict (sheetOf how r) (sheetOf how s) (sheetOf how x) ≡ refused (№ n f l c)
   unfolding check
-  set-refused n f l c y = told-refused _ _ _ _ _ (№ n f l c) (ap paper (sym y) ∙ e)
+  set-refused n f l c y = told-refused _ _ _ _ _ _ (№ n f l c) (ap paper (sym y) ∙ e)
 
 module _ (r s x : Sheet) (A : PaperAnswer) (q : Bool) where
   abbrev Says : PaperAnswer → Type 0

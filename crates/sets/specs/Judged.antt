@@ -13,8 +13,8 @@ use Rattle.sets.specs.declared.Answer.the-variants.{Accepted, Refused}
 
 pub record Judged (r s x : Sheet) (v : Answer) : Type 0 where
   -- "A set is accepted exactly when it meets the SPS text of 1993 as narrowed in document 01"
-  pub accepted-when : ((n : ℕ) × (m : ℕ) × (k : ℕ) × (t : ℕ) × (v ≡ Accepted n m k t)) ↔ Meets r s x
+  pub accepted-when : ((n : ℕ) × (m : ℕ) × (k : ℕ) × (t : ℕ) × (d : ℕ) × (v ≡ Accepted n m k t d)) ↔ Meets r s x
   -- "The counts returned on acceptance are those of the set."
-  pub counts-of : (n m k t : ℕ) → v ≡ Accepted n m k t → Totals r s x n m k t
+  pub counts-of : (n m k t d : ℕ) → v ≡ Accepted n m k t d → Totals r s x n m k t d
   -- "otherwise the refusal is the first breach in the stated order"
   pub refused-when : (n f l c : ℕ) → (v ≡ Refused n f l c) ↔ Refuses r s x (№ n f l c)

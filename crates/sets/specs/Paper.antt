@@ -8,23 +8,27 @@
 --   answeredAcross     = that answer, after the rules across the files
 --   tracesAt x k       = the traces of line k, where it is a relation line
 --   KnownSet r s x     = the three files are well formed
---   Ordered r s x      = and 10, 11 and 12 are met
+--   Headed r s x       = and their headers and code tables are met; Met r s x = and so are all rules
+--   Ordered r s x      = the files are well formed, and 10, 11 and 12 are met
 --   Arrays o p         = both arrays have a place for each line
 use Prim.Native.Nat.{ℕ, _≤_}
 use mathlib.Core.List.{List}
 use lib.ListN.{length}
 use Rattle.rules.specs.Places.{pick}
-use Rattle.rules.specs.Plan.{№, Plan, fileR, fileS, fileX, _before_, upTo, run}
+use mathlib.Core.Path.{_≡_}
+use Rattle.rules.specs.Plan.{№, Plan, fine, fileR, fileS, fileX, _before_, upTo, run}
 use Rattle.rules.specs.Sheet.{Sheet, mostLines}
 use Rattle.rules.specs.Lines.{isData}
 use Rattle.rules.specs.Relations.{reachAt}
 use Rattle.rules.specs.Cover.{traces}
 use Rattle.rules.specs.Form.{form}
+use Rattle.rules.specs.Codes.{codesFit}
 use Rattle.rules.specs.Order.{rule10}
-use Rattle.rules.specs.Check.{Answer as PaperAnswer, accepted, refusal, points, relations, allTraces, answer, check}
+use Rattle.rules.specs.Check.{Answer as PaperAnswer, accepted, refusal, points, relations, allTraces, deadTraces, verdict, answer, check}
 use Rattle.lines.specs.Reading.{sheetOf}
 use Rattle.lines.specs.declared.Reading.{Reading}
 use Rattle.form.specs.Known.{Known}
+use Rattle.headers.specs.Steps.{headersFit}
 use Rattle.keys.specs.Held.{shotFits, KnownReceivers, KnownShots}
 use Rattle.shots.specs.Places.{allNamed}
 use Rattle.relations.specs.Walk.{allRelate}
@@ -32,7 +36,7 @@ use Rattle.sets.specs.declared.Answer.{Answer}
 use Rattle.sets.specs.declared.Answer.the-variants.{Accepted, Refused}
 
 abbrev pub paper : Answer → PaperAnswer
-paper (Accepted a b c d) = accepted a b c d
+paper (Accepted a b c d e) = accepted a b c d e
 paper (Refused n f l c) = refusal (№ n f l c)
 
 abbrev pub checkOn : Reading → List ℕ → List ℕ → List ℕ → PaperAnswer
@@ -48,7 +52,7 @@ unfoldable pub across : Sheet → Sheet → Sheet → Plan
 across r s x = upTo (r .count) (rule10 r) before upTo (s .count) (shotFits s) before allRelate r s x before allNamed s x
 
 unfoldable pub counts : Sheet → Sheet → Sheet → PaperAnswer
-counts r s x = accepted (points r) (points s) (relations x) (allTraces x)
+counts r s x = accepted (points r) (points s) (relations x) (allTraces x) (deadTraces r x)
 
 abbrev pub answeredAcross : Sheet → Sheet → Sheet → PaperAnswer
 answeredAcross r s x = answer (run (across r s x)) (counts r s x)
@@ -60,6 +64,20 @@ pub record KnownSet (r s x : Sheet) : Type 0 where
   pub receivers : Known 1 r
   pub shots : Known 2 s
   pub relations : Known 3 x
+
+-- the form, the headers and the code tables are met
+pub record Headed (r s x : Sheet) : Type 0 where
+  pub known : KnownSet r s x
+  pub forms : fine ≡ run (formsOf r s x)
+  pub heads : fine ≡ run (headersFit r s x)
+  pub codes : fine ≡ run (codesFit r s x)
+  pub alike : r .rank ≡ x .rank
+
+-- and so is all
+pub record Met (r s x : Sheet) : Type 0 where
+  pub known : KnownSet r s x
+  pub fine : verdict r s x ≡ fine
+  pub alike : r .rank ≡ x .rank
 
 pub record Ordered (r s x : Sheet) : Type 0 where
   pub receivers : KnownReceivers r

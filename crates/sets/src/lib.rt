@@ -6,7 +6,8 @@ ghost use Rattle.lines.specs.Paper.{paper as verdictOf};
 ghost use Rattle.lines.specs.Reading.{sheetOf};
 ghost use Rattle.form.specs.Known.{Known};
 ghost use Rattle.relations.specs.Walk.{allRelate};
-ghost use Rattle.sets.specs.Paper.{paper, checkOn, formsOf, pointsOf, across as acrossOf, counts as countsOf, answeredAcross, KnownSet, Ordered, Arrays};
+ghost use Rattle.sets.specs.Paper.{paper, checkOn, formsOf, pointsOf, across as acrossOf, counts as countsOf, answeredAcross};
+ghost use Rattle.sets.specs.Paper.{KnownSet, Headed, Met, Ordered, Arrays};
 use keys::By;
 use keys::Keyed;
 use lines::Reading;
@@ -14,10 +15,10 @@ use lines::Verdict;
 
 mod counts;
 
-// What the set check answers: accepted, with receivers, shots, relation lines and traces; or refused, with number, file (R 1, S 2,
+// What the set check answers: accepted, with receivers, shots, relation lines, traces and dead traces; or refused, with number, file (R 1, S 2,
 // X 3), line and column.
 pub enum Answer {
-    Accepted(u64, u64, u64, u64),
+    Accepted(u64, u64, u64, u64, u64),
     Refused(u8, u8, u32, u8),
 }
 
@@ -113,21 +114,22 @@ fn verdict_across(
     shots::shots_named(how, s, x)
 }
 
-// The counts of the set.
-fn counted(how: Reading, r: &[u8], s: &[u8], x: &[u8]) -> Answer
-    requires { ⌜ KnownSet (sheetOf how (now r)) (sheetOf how (now s)) (sheetOf how (now x)) ⌝ }
+// The counts of a set that meets the rules; the arrays are scratch.
+fn counted(how: Reading, r: &[u8], s: &[u8], x: &[u8], o: &mut [u32], p: &mut [u32]) -> Answer
+    requires { ⌜ Met (sheetOf how (now r)) (sheetOf how (now s)) (sheetOf how (now x)) × Arrays (now o) (now p) ⌝ }
     ensures answer { λ a. ⌜ paper a ≡ countsOf (sheetOf how (now (r .entry))) (sheetOf how (now (s .entry))) (sheetOf how (now (x .entry))) ⌝ }
 {
     let receivers = counts::points(how, r);
     let shots = counts::points(how, s);
     let lines = counts::relations(how, x);
     let traces = counts::traces(how, x);
-    Answer::Accepted(receivers, shots, lines, traces)
+    let dead = dead::dead_traces(how, r, x, o, p);
+    Answer::Accepted(receivers, shots, lines, traces, dead)
 }
 
 // The answer across the files.
 fn answer_across(how: Reading, r: &[u8], s: &[u8], x: &[u8]) -> Answer
-    requires { ⌜ KnownSet (sheetOf how (now r)) (sheetOf how (now s)) (sheetOf how (now x)) ⌝ }
+    requires { ⌜ Headed (sheetOf how (now r)) (sheetOf how (now s)) (sheetOf how (now x)) ⌝ }
     ensures answer { λ a. ⌜ paper a ≡ answeredAcross (sheetOf how (now (r .entry))) (sheetOf how (now (s .entry))) (sheetOf how (now (x .entry))) ⌝ }
 {
     let mut o = [0u32; lines::MOST_LINES];
@@ -136,7 +138,7 @@ fn answer_across(how: Reading, r: &[u8], s: &[u8], x: &[u8]) -> Answer
     if let Verdict::Refused(n, f, l, c) = v {
         return Answer::Refused(n, f, l, c);
     }
-    counted(how, r, s, x)
+    counted(how, r, s, x, &mut o, &mut p)
 }
 
 // Checks a set of three files of any length and content, read in one way.

@@ -17,13 +17,13 @@ use Rattle.rules.specs.Places.{least}
 use Rattle.rules.specs.Plan.{fine, refused, №, upTo, run}
 use Rattle.rules.specs.Sheet.{Sheet}
 use Rattle.rules.specs.Lines.{isData, isPoint, heads}
-use Rattle.rules.specs.Points.{pointAt}
+use Rattle.rules.specs.Points.{pointAt, isKilled}
 use Rattle.rules.specs.Relations.{relationAt}
-use Rattle.rules.specs.Order.{isPointAt, lineOfPoint, shotLine, names, rule13, rule14, rule15}
+use Rattle.rules.specs.Order.{isPointAt, isLive, isShotOf, shotLine, names, rule13, rule14, rule15}
 use Rattle.rules.proofs.Tests.{clash, and-is, not-is, some-is, imp-is, if-before-is, yes-no}
 use Rattle.rules.proofs.Breach.{run-met}
 use Rattle.rules.proofs.Steps.{need-met, need-broken, when-on, when-off}
-use Rattle.rules.proofs.Least.{least-is, least-there, least-below}
+use Rattle.rules.proofs.Least.{least-is, least-below}
 use Rattle.rules.specs.MeetsForm.{Rule4}
 use Rattle.rules.specs.MeetsSet.{At as IsAt}
 use Rattle.rules.proofs.Form.{data-is, point-is}
@@ -31,10 +31,9 @@ use Rattle.rules.proofs.Order.{at-is, point-at-is}
 use Rattle.lines.proofs.Tests.{untrue}
 use Rattle.form.proofs.Known.{formed}
 use Rattle.keys.specs.Held.{RelationLine, KnownShots}
-use Rattle.keys.specs.Keyed.{takesAt, keyAt}
+use Rattle.keys.specs.Keyed.{keyAt}
 use Rattle.keys.specs.declared.By.the-variants.{Points}
 use Rattle.keys.specs.declared.Key.{Key}
-use Rattle.keys.proofs.Lines.{takes-point}
 use Rattle.shots.specs.Places.{isShot, namesKey, shotOrder, pastOf, Ordered}
 use Rattle.shots.proofs.Held.{names-shot}
 use Rattle.shots.proofs.Places.{onFrom, from-found, from-gone, one-shot}
@@ -52,17 +51,27 @@ module _ (s x : Sheet) (ws : KnownShots s) (four : (k : ℕ) → k < x .count �
   abbrev pub line : ℕ → ℕ
   line i = lineOf s x i
 
-  pub there : (i : ℕ) → RelationLine x i → (line i < s .count)
-      × (isPointAt s (relationAt x i .source) (relationAt x i .shot) (relationAt x i .shotIndex) (line i) ≡ true)
-  unfolding rule13 shotLine lineOfPoint
+  pub there : (i : ℕ) → RelationLine x i → (line i < s .count) × (isShot s x i (line i) ≡ true)
+  unfolding rule13 isShot
   there i h =
       let t = run-met (upTo (x .count) (shotOrder s x)) .0 (sym met) i (h .0) (h .1) .0 in
-      let w = some-is (s .count) _ .0 t in
-      let u = least-there (s .count) (w .0) _ (w .1) (w .2) in
-      (u .0, u .1)
+      let w = some-is (s .count) (isShotOf s (relationAt x i)) .0 t in
+      let e = one-shot s x ws i (w .0) (w .1) (w .2) in
+      let g = w .1 in
+      (omega arith, subst (λ (n : ℕ). isShotOf s (relationAt x i) n ≡ true) (sym e) (w .2))
 
-  shot-point : (i : ℕ) → RelationLine x i → isPoint s (line i) ≡ true
-  shot-point i h = point-is s (line i) .1 (point-at-is _ _ _ _ (line i) .0 (there i h .1) .0)
+  -- what holds of its line
+  shot-at-line : (i : ℕ) → RelationLine x i
+      → (isPointAt s (relationAt x i .source) (relationAt x i .shot) (relationAt x i .shotIndex) (line i) ≡ true)
+      × (not (isKilled (pointAt s (line i))) ≡ true)
+  unfolding isShot isShotOf
+  shot-at-line i h = and-is _ _ .0 (there i h .1)
+
+  shot-point : (i : ℕ) → RelationLine x i → isLive s (line i) ≡ true
+  unfolding isLive
+  shot-point i h =
+      let w = shot-at-line i h in
+      and-is _ _ .1 (point-is s (line i) .1 (point-at-is _ _ _ _ (line i) .0 (w .0) .0), w .1)
 
   pub onwards : (i k : ℕ) → i ≤ k → k < x .count → isData x i ≡ true → isData x k ≡ true
   onwards i k l h d =
@@ -113,7 +122,7 @@ module _ (s x : Sheet) (ws : KnownShots s) (four : (k : ℕ) → k < x .count �
 
   module _ (k j : ℕ) (h : k < s .count) (p : Passed s x k j) where
     -- line k is no shot
-    module _ (n : isPoint s k ≡ false) where
+    module _ (n : isLive s k ≡ false) where
       pub other-on : Passed s x (k + 1) j
       other-on =
           record {
@@ -124,7 +133,7 @@ module _ (s x : Sheet) (ws : KnownShots s) (four : (k : ℕ) → k < x .count �
                 λ i l g.
                 let z = p .high i l g in
                 let t = shot-point i (g, p .relate i l g) in
-                let u : line i ≡ k → ⊥ = λ e. clash (sym n ∙ ap (isPoint s) (sym e) ∙ t) in
+                let u : line i ≡ k → ⊥ = λ e. clash (sym n ∙ ap (isLive s) (sym e) ∙ t) in
                 omega arith;
           }
 
@@ -133,14 +142,16 @@ module _ (s x : Sheet) (ws : KnownShots s) (four : (k : ℕ) → k < x .count �
       other-fine = when-off _ _ n
 
     -- line k is a shot, and N tells which relation lines name it
-    module _ (y : isPoint s k ≡ true) (N : ℕ → Bool) (names-it : (i : ℕ) → RelationLine x i → (N i ≡ true) ↔ (line i ≡ k)) (i : ℕ)
+    module _ (y : isLive s k ≡ true) (N : ℕ → Bool) (names-it : (i : ℕ) → RelationLine x i → (N i ≡ true) ↔ (line i ≡ k)) (i : ℕ)
         (e : i ≡ least (x .count) (onFrom (x .count) j (λ m. not (N m)))) where
       abbrev At : ℕ → ℕ → Type 0
       At m n = IsAt (relationAt x m .source) (relationAt x m .shot) (relationAt x m .shotIndex) (pointAt s n)
 
       shot-at : (m : ℕ) → names (relationAt x m) (pointAt s k) ≡ true → isShot s x m k ≡ true
-      unfolding names isShot
-      shot-at m t = point-at-is _ _ _ _ k .1 (point-is s k .0 y, at-is _ _ _ _ .0 t)
+      unfolding names isShot isShotOf isLive
+      shot-at m t =
+          let w = and-is (isPoint s k) _ .0 y in
+          and-is _ _ .1 (point-at-is _ _ _ _ k .1 (point-is s k .0 (w .0), at-is _ _ _ _ .0 t), w .1)
 
       -- the lines from j on and before i name it
       run-of : (m : ℕ) → j ≤ m → m < i → m < x .count → line m ≡ k
@@ -185,7 +196,7 @@ module _ (s x : Sheet) (ws : KnownShots s) (four : (k : ℕ) → k < x .count �
       named-by : (m : ℕ) → RelationLine x m → line m ≡ k → (isData x m && names (relationAt x m) (pointAt s k)) ≡ true
       unfolding names
       named-by m r u =
-          and-is _ _ .1 (r .1, at-is _ _ _ _ .1 (subst (λ (n : ℕ). At m n) u (point-at-is _ _ _ _ (line m) .0 (there m r .1) .1)))
+          and-is _ _ .1 (r .1, at-is _ _ _ _ .1 (subst (λ (n : ℕ). At m n) u (point-at-is _ _ _ _ (line m) .0 (shot-at-line m r .0) .1)))
 
       pub named : (i ≡ j → ⊥) → fine ≡ run (rule15 s x k)
       unfolding rule15
@@ -225,17 +236,16 @@ module _ (s x : Sheet) (o : Ordered s x) (same : s .rank ≡ x .rank) (k j : ℕ
   four : (i : ℕ) → i < x .count → Rule4 3 x i
   four = formed 3 x (o .relations) .rule4
 
-  pub step-other : (t : Bool) → t ≡ takesAt Points s k → t ≡ false → (fine ≡ run (rule15 s x k)) × Passed s x (k + 1) j
+  pub step-other : (t : Bool) → t ≡ isLive s k → t ≡ false → (fine ≡ run (rule15 s x k)) × Passed s x (k + 1) j
   step-other t e n =
-      let z = sym (takes-point s k h) ∙ sym e ∙ n in
+      let z = sym e ∙ n in
       (other-fine s x (o .shots) four (o .met) k j h p z, other-on s x (o .shots) four (o .met) k j h p z)
 
-  module _ (t : Bool) (e : t ≡ takesAt Points s k) (y : t ≡ true) (key : Key) (f : key ≡ keyAt Points s k) (i : ℕ) (q : i ≡ pastOf x key j) where
-    z : isPoint s k ≡ true
-    z = sym (takes-point s k h) ∙ sym e ∙ y
+  module _ (t : Bool) (e : t ≡ isLive s k) (y : t ≡ true) (key : Key) (f : key ≡ keyAt Points s k) (i : ℕ) (q : i ≡ pastOf x key j) where
+    z : isLive s k ≡ true
+    z = sym e ∙ y
 
     by-key : (m : ℕ) → RelationLine x m → (namesKey x key m ≡ true) ↔ (lineOf s x m ≡ k)
-    unfolding isShot
     by-key m r =
         let u = ap (λ (w : Key). namesKey x w m) f ∙ names-shot s x (o .shots) (o .relations) same k h z m (r .0) (r .1) in (
           λ t. one-shot s x (o .shots) m k h (sym u ∙ t),

@@ -17,7 +17,7 @@ use Rattle.rules.specs.Plan.{fine, refused, №, upTo, run}
 use Rattle.rules.specs.Sheet.{Sheet}
 use Rattle.rules.specs.Lines.{isData}
 use Rattle.rules.specs.Relations.{relationAt}
-use Rattle.rules.specs.Order.{shotLine, rule13, rule14}
+use Rattle.rules.specs.Order.{isPointAt, isShotOf, shotLine, rule13, rule14}
 use Rattle.rules.proofs.Tests.{and-is, some-is, imp-is, if-before-is, yes-no, more}
 use Rattle.rules.proofs.Breach.{run-met}
 use Rattle.rules.proofs.Steps.{need-met, need-broken, before-met, before-broken}
@@ -70,8 +70,8 @@ module _ (s x : Sheet) (ws : KnownShots s) where
 
   module _ (k : ℕ) where
     pub one-shot : (j : ℕ) → j < s .count → isShot s x k j ≡ true → shotLine s (relationAt x k) ≡ j
-    unfolding isShot
-    one-shot j h t = shot-line s twelve (relationAt x k) j h (point-at-is _ _ _ _ j .0 t)
+    unfolding isShot isShotOf
+    one-shot j h t = shot-line s twelve (relationAt x k) j h (point-at-is _ _ _ _ j .0 (and-is (isPointAt s _ _ _ j) _ .0 t .0))
 
     thirteen : (j : ℕ) → j < s .count → isShot s x k j ≡ true → fine ≡ run (rule13 s x k)
     unfolding rule13 isShot

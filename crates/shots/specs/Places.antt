@@ -1,5 +1,5 @@
 -- Where the shots of relation lines stand in S.
---   isShot s x k j      = line j of S holds the shot of relation line k
+--   isShot s x k j      = line j of S holds the shot of relation line k, and it is not killed
 --   namesKey x y i      = the shot of line i of X has the key y
 --   onward s x k from   = the first line from `from` on that holds the shot of line k; the number of lines where none does
 --   placeBefore s x k   = the line of the shot of the line just before line k, where that is a relation line; else 0
@@ -18,7 +18,7 @@ use Rattle.rules.specs.Plan.{Plan, fine, _before_, upTo, when, run}
 use Rattle.rules.specs.Sheet.{Sheet}
 use Rattle.rules.specs.Lines.{isData}
 use Rattle.rules.specs.Relations.{relationAt}
-use Rattle.rules.specs.Order.{isPointAt, shotLine, rule13, rule14, rule15}
+use Rattle.rules.specs.Order.{isShotOf, shotLine, rule13, rule14, rule15}
 use Rattle.form.specs.Known.{owned, Known}
 use Rattle.keys.specs.Compare.{sameKey}
 use Rattle.keys.specs.Keys.{shotKey}
@@ -26,7 +26,7 @@ use Rattle.keys.specs.Held.{RelationLine, KnownShots}
 use Rattle.keys.specs.declared.Key.{Key}
 
 unfoldable pub isShot : Sheet → Sheet → ℕ → ℕ → Bool
-isShot s x k j = let v = relationAt x k in isPointAt s (v .source) (v .shot) (v .shotIndex) j
+isShot s x k j = isShotOf s (relationAt x k) j
 
 unfoldable pub namesKey : Sheet → Key → ℕ → Bool
 namesKey x y i = sameKey (shotKey (x .layout) (owned x i)) y

@@ -11,16 +11,20 @@ use mathlib.Core.Bool.{Bool, true, false}
 use mathlib.Core.List.{List, [], _∷_, _++_}
 use lib.ListN.{length, getD, take, drop, replicate, length-drop}
 use lib.Seq.{take-at, drop-at, drop-drop}
-use Rattle.rules.specs.Places.{pick, count}
-use Rattle.rules.specs.Plan.{Refusal}
+use Rattle.rules.specs.Places.{pick, count, sum}
+use Rattle.rules.specs.Plan.{Refusal, Verdict, fine, refused}
 use Rattle.rules.specs.Sheet.{Sheet, mostLines, allLines}
 use Rattle.rules.specs.Medium.{Medium, sheet}
 use Rattle.rules.specs.Layout.{sps93}
 use Rattle.rules.specs.Lines.{isData, isPoint}
-use Rattle.rules.specs.Check.{Answer, accepted, refusal, trace, channel, highest, headerLine, noTrace, check}
+use Rattle.rules.specs.Relations.{reachAt}
+use Rattle.rules.specs.Cover.{traces}
+use Rattle.rules.specs.Check.{Answer, accepted, refusal, trace, channel, highest, headerLine, noTrace}
+use Rattle.rules.specs.Check.{points, relations, allTraces, deadOf, deadTraces, verdict, answer, check}
 use Rattle.rules.specs.MeetsForm.{Data, Point}
 use Rattle.rules.proofs.Form.{data-is, point-is}
-use Rattle.rules.proofs.Counts.{how-many, how-much, accepted-is}
+use Rattle.rules.proofs.Which.{how-many, how-much}
+use Rattle.rules.proofs.Counts.{accepted-is}
 use Rattle.rules.proofs.Medium.{Lawful}
 use Rattle.rules.proofs.Hosts.{Sized, check-sized}
 use Rattle.sps.specs.Counts.{lowBytes, placed, counted}
@@ -28,7 +32,7 @@ use Rattle.sps.specs.Said.{valueOf, readAt}
 use Rattle.sps.proofs.Placed.{or-less, low-length, placed-whole, placed-short, placed-none, placed-length}
 
 -- 258 receivers in a slice of nine bytes, by computation
-nine-bytes : counted (accepted 258 1 1 3) (replicate 9 170) ≡ 2 ∷ 1 ∷ 0 ∷ 0 ∷ 0 ∷ 0 ∷ 0 ∷ 0 ∷ 170 ∷ []
+nine-bytes : counted (accepted 258 1 1 3 0) (replicate 9 170) ≡ 2 ∷ 1 ∷ 0 ∷ 0 ∷ 0 ∷ 0 ∷ 0 ∷ 0 ∷ 170 ∷ []
 unfolding counted placed lowBytes pick
 nine-bytes = refl
 
@@ -67,13 +71,13 @@ placed-beyond (suc i) (v ∷ vs) o h =
     ∙ drop-drop (8 * i) 8 o ∙ ap (λ (k : ℕ). drop k o) n)
     (λ l. ap (drop (8 * suc i)) (placed-short (v ∷ vs) o l))
 
--- an answer writes the four counts or nothing
-counted-view : (P : List ℕ → List ℕ → Type 0) → ((n m k t : ℕ) (o : List ℕ) → P o (placed (n ∷ m ∷ k ∷ t ∷ []) o)) → ((o : List ℕ) → P o o)
+-- an answer writes the five counts or nothing
+counted-view : (P : List ℕ → List ℕ → Type 0) → ((n m k t d : ℕ) (o : List ℕ) → P o (placed (n ∷ m ∷ k ∷ t ∷ d ∷ []) o)) → ((o : List ℕ) → P o o)
     → (a : Answer) (o : List ℕ) → P o (counted a o)
 unfolding counted
-counted-view P f g (accepted n m k t) o = f n m k t o
+counted-view P f g (accepted n m k t d) o = f n m k t d o
 counted-view P f g (refusal w) o = g o
-counted-view P f g (trace l m) o = g o
+counted-view P f g (trace l m d) o = g o
 counted-view P f g (channel c) o = g o
 counted-view P f g (highest c) o = g o
 counted-view P f g (headerLine l) o = g o
@@ -96,12 +100,42 @@ count-few (suc n) p =
 fits : (n c : ℕ) (p : ℕ → Bool) → n ≤ 9999 → count n p ≡ c → c < 256 ^ 8
 fits n c p h e = let f = count-few n p in omega arith
 
-each : (n m k t : ℕ) → n < 256 ^ 8 → m < 256 ^ 8 → k < 256 ^ 8 → t < 256 ^ 8 → (i : ℕ) → getD (n ∷ m ∷ k ∷ t ∷ []) i 0 < 256 ^ 8
-each n m k t a b c d zero = a
-each n m k t a b c d (suc zero) = b
-each n m k t a b c d (suc (suc zero)) = c
-each n m k t a b c d (suc (suc (suc zero))) = d
-each n m k t a b c d (suc (suc (suc (suc i)))) = omega arith
+each : (n m k t y : ℕ) → n < 256 ^ 8 → m < 256 ^ 8 → k < 256 ^ 8 → t < 256 ^ 8 → y < 256 ^ 8 → (i : ℕ)
+    → getD (n ∷ m ∷ k ∷ t ∷ y ∷ []) i 0 < 256 ^ 8
+each n m k t y a b c d e zero = a
+each n m k t y a b c d e (suc zero) = b
+each n m k t y a b c d e (suc (suc zero)) = c
+each n m k t y a b c d e (suc (suc (suc zero))) = d
+each n m k t y a b c d e (suc (suc (suc (suc zero)))) = e
+each n m k t y a b c d e (suc (suc (suc (suc (suc i))))) = omega arith
+
+-- no more dead traces than traces
+pick-le : (t : Bool) (a b : ℕ) → a ≤ b → pick t a 0 ≤ pick t b 0
+unfolding pick
+pick-le true a b h = h
+pick-le false a b h = omega arith
+
+sum-le : (n : ℕ) (g h : ℕ → ℕ) → ((k : ℕ) → g k ≤ h k) → sum n g ≤ sum n h
+unfolding sum
+sum-le zero g h f = omega arith
+sum-le (suc n) g h f =
+    let i = sum-le n g h f in
+    let j = f n in
+    omega arith
+
+dead-few : (r x : Sheet) → deadTraces r x ≤ allTraces x
+unfolding deadTraces allTraces deadOf
+dead-few r x = sum-le (x .count) _ _ (λ k. pick-le (isData x k) _ (traces (reachAt x k)) (count-few (traces (reachAt x k)) _))
+
+-- the last two counts of an accepted set
+last-two : (r s x : Sheet) (n m k t d : ℕ) → check r s x ≡ accepted n m k t d → (t ≡ allTraces x) × (d ≡ deadTraces r x)
+unfolding check answer
+last-two r s x n m k t d = go (verdict r s x)
+  where
+    go : (v : Verdict) → answer v (accepted (points r) (points s) (relations x) (allTraces x) (deadTraces r x)) ≡ accepted n m k t d
+        → (t ≡ allTraces x) × (d ≡ deadTraces r x)
+    go fine e = ((cc), (cc))
+    go (refused w) e = absurd (let z : _≡_ {A = ℕ} 0 1 = cc in omega arith)
 
 module _ (M : Medium) (g : Lawful M) (r s x : List ℕ) where
   abbrev file : List ℕ → Sheet
@@ -110,18 +144,23 @@ module _ (M : Medium) (g : Lawful M) (r s x : List ℕ) where
   few-lines : (f : List ℕ) → allLines (file f) ≤ mostLines → file f .count ≤ mostLines
   few-lines f h = omega arith
 
-  counts-few : (n m k t : ℕ) → check (file r) (file s) (file x) ≡ accepted n m k t → (i : ℕ) → getD (n ∷ m ∷ k ∷ t ∷ []) i 0 < 256 ^ 8
+  counts-few : (n m k t y : ℕ) → check (file r) (file s) (file x) ≡ accepted n m k t y → (i : ℕ) → getD (n ∷ m ∷ k ∷ t ∷ y ∷ []) i 0 < 256 ^ 8
   unfolding mostLines sheet sps93
-  counts-few n m k t q =
-      let w = accepted-is (file r) (file s) (file x) n m k t .0 q in
+  counts-few n m k t y q =
+      let w = accepted-is (file r) (file s) (file x) n m k t y .0 q in
+      let z = last-two (file r) (file s) (file x) n m k t y q in
+      let z0 = z .0 in
+      let z1 = z .1 in
+      let dead = dead-few (file r) (file x) in
       let ok = w .0 in
       let c = w .1 in
       let few : t < 2 ^ 40 = subst Sized q (check-sized M g r s x) in
       let a = how-many (file r) (isPoint (file r)) (Point (file r)) (point-is (file r)) n .0 (c .receivers) in
       let b = how-many (file s) (isPoint (file s)) (Point (file s)) (point-is (file s)) m .0 (c .shots) in
       let d = how-much (file x) (isData (file x)) (Data (file x)) (data-is (file x)) _ k t .0 (c .relations) .0 in
-      each n m k t (fits _ n _ (few-lines r (ok .formR .rule2)) a) (fits _ m _ (few-lines s (ok .formS .rule2)) b)
+      each n m k t y (fits _ n _ (few-lines r (ok .formR .rule2)) a) (fits _ m _ (few-lines s (ok .formS .rule2)) b)
       (fits _ k _ (few-lines x (ok .formX .rule2)) d)
+      (omega arith)
       (omega arith)
 
   -- o stands in the slice before the call, and e afterwards
@@ -129,20 +168,20 @@ module _ (M : Medium) (g : Lawful M) (r s x : List ℕ) where
     pub length-stays : length e ≡ length o
     length-stays =
         rw w
-        (counted-view (λ o e. length e ≡ length o) (λ n m k t o. placed-length (n ∷ m ∷ k ∷ t ∷ []) o) (λ o. refl)
+        (counted-view (λ o e. length e ≡ length o) (λ n m k t d o. placed-length (n ∷ m ∷ k ∷ t ∷ d ∷ []) o) (λ o. refl)
         (check (file r) (file s) (file x)) o)
 
-    pub count-at : (n m k t : ℕ) → check (file r) (file s) (file x) ≡ accepted n m k t
-        → (i : ℕ) → i < 4 → 8 * i + 8 ≤ length o → readAt i e ≡ getD (n ∷ m ∷ k ∷ t ∷ []) i 0
+    pub count-at : (n m k t y : ℕ) → check (file r) (file s) (file x) ≡ accepted n m k t y
+        → (i : ℕ) → i < 5 → 8 * i + 8 ≤ length o → readAt i e ≡ getD (n ∷ m ∷ k ∷ t ∷ y ∷ []) i 0
     unfolding counted
-    count-at n m k t q i h l =
-        rw (w, q, placed-at i (n ∷ m ∷ k ∷ t ∷ []) o (omega arith) l) (low-value 8 _ (counts-few n m k t q i))
+    count-at n m k t y q i h l =
+        rw (w, q, placed-at i (n ∷ m ∷ k ∷ t ∷ y ∷ []) o (omega arith) l) (low-value 8 _ (counts-few n m k t y q i))
 
-    pub beyond-stays : (i : ℕ) → (i < 4 → length o < 8 * i + 8) → drop (8 * i) e ≡ drop (8 * i) o
+    pub beyond-stays : (i : ℕ) → (i < 5 → length o < 8 * i + 8) → drop (8 * i) e ≡ drop (8 * i) o
     beyond-stays i h =
         rw w
-        (counted-view (λ o e. (i < 4 → length o < 8 * i + 8) → drop (8 * i) e ≡ drop (8 * i) o)
-        (λ n m k t o. placed-beyond i (n ∷ m ∷ k ∷ t ∷ []) o) (λ o h. refl) (check (file r) (file s) (file x)) o h)
+        (counted-view (λ o e. (i < 5 → length o < 8 * i + 8) → drop (8 * i) e ≡ drop (8 * i) o)
+        (λ n m k t d o. placed-beyond i (n ∷ m ∷ k ∷ t ∷ d ∷ []) o) (λ o h. refl) (check (file r) (file s) (file x)) o h)
 
     pub refusal-stays : (v : Refusal) → check (file r) (file s) (file x) ≡ refusal v → e ≡ o
     unfolding counted

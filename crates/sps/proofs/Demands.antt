@@ -78,7 +78,7 @@ module _ (M : Medium) (g : Lawful M) (r s x : List ℕ) where
         b .2,
         record {
           size = length-stays M g r s x o e w;
-          written = λ n m k t y. count-at M g r s x o e w n m k t (q (Accepted n m k t) y);
+          written = λ n m k t d y. count-at M g r s x o e w n m k t d (q (Accepted n m k t d) y);
           others = beyond-stays M g r s x o e w;
           unwritten = λ i f l c y. refusal-stays M g r s x o e w (№ i f l c) (q (SetRefused i f l c) y);
         },

@@ -15,6 +15,8 @@ use Rattle.sps.proofs.set_number as set-number
 use Rattle.sps.proofs.set_number.Reads as set-number-reads
 use Rattle.sps.proofs.put_counts as put-counts
 use Rattle.sps.proofs.put_counts.Reads as put-counts-reads
+use Rattle.sps.proofs.mark as mark
+use Rattle.sps.proofs.mark.Reads as mark-reads
 use Rattle.sps.proofs.question_number as question-number
 use Rattle.sps.proofs.question_number.Reads as question-number-reads
 use Rattle.sps.proofs.spread_number as spread-number
@@ -48,6 +50,9 @@ set-number-one κs a v v′ w w′ p p′ = (p ∙ sym p′, refl)
 
 pub put-counts-one : One put-counts.ended put-counts-reads.Post
 put-counts-one κs a v v′ w w′ p p′ = (refl, both refl (both (p ∙ sym p′) refl))
+
+pub mark-one : One mark.ended mark-reads.Post
+mark-one κs a v v′ w w′ p p′ = (p ∙ sym p′, refl)
 
 pub question-number-one : One question-number.ended question-number-reads.Post
 question-number-one κs a v v′ w w′ p p′ = (p ∙ sym p′, refl)

@@ -1,14 +1,16 @@
 -- The number of an answer tells it, where the answer is that of the definitions.
 --   by-choice, no-choice = what a call answers by the medium that the code has chosen
-use Prim.Native.Nat.{ℕ}
+use Prim.Native.Nat.{ℕ, _^_, _≤_, _<_}
 use native.Mathlib.Omega.{arith}
 use mathlib.Core.Path.{_≡_, refl, sym, ap, _∙_}
 use mathlib.Core.Logic.{⊎-elim}
+use mathlib.Core.Bool.{Bool, true, false}
 use mathlib.Core.List.{List}
+use Rattle.rules.specs.Places.{pick}
 use Rattle.rules.specs.Plan.{№, Verdict, fine, refused, _before_, run}
 use Rattle.rules.specs.Sheet.{Sheet}
 use Rattle.rules.specs.Codes.{lineNaming}
-use Rattle.rules.specs.Check.{Answer, accepted, refusal, highest, headerLine, rules, verdict, answer, points, relations, allTraces, check}
+use Rattle.rules.specs.Check.{Answer, accepted, refusal, highest, headerLine, rules, verdict, answer, points, relations, allTraces, deadTraces, trace, check}
 use Rattle.rules.specs.Questions.{rule20}
 use Rattle.rules.specs.Tables.{kindOf, written, codeAsked, tableLine}
 use Rattle.rules.specs.Medium.{Medium}
@@ -19,7 +21,7 @@ use Rattle.rules.specs.Hosts.{packed, hostNumber}
 use Rattle.rules.specs.Listed.{Listed}
 use Rattle.rules.proofs.Traces.{found-view, back-view}
 use Rattle.rules.proofs.ListedSizes.{listed-within}
-use Rattle.rules.proofs.Hosts.{Sized, refusal-parts}
+use Rattle.rules.proofs.Hosts.{Sized, refusal-parts, trace-parts}
 use Rattle.lines.specs.Reading.{mediumOf, chosenBy}
 use Rattle.lines.specs.declared.Reading.{Reading}
 use Rattle.lines.specs.declared.Choice.{Choice}
@@ -45,15 +47,25 @@ refused-as i f l c w n e =
 
 pub tells-set : (v : SetAnswer) → Sized (setPaper v) → (n : ℕ) → n ≡ hostNumber (setPaper v) → TellsSet n v
 unfolding hostNumber
-tells-set (Accepted a b c t) z n e = (rw e z, e)
+tells-set (Accepted a b c t d) z n e = (rw e z, e)
 tells-set (SetRefused i f l c) z n e = refused-as i f l c z n e
+
+-- the mark of a killed receiver
+pub mark-few : (d : Bool) (n : ℕ) → n ≡ pick d (2 ^ 32) 0 → n ≤ 4294967296
+unfolding pick
+mark-few true n e = omega arith
+mark-few false n e = omega arith
+
+trace-below : (l m : ℕ) (d : Bool) → l ≤ 9999 → m ≤ 9 → hostNumber (trace l m d) < 2 ^ 40
+unfolding hostNumber pick
+trace-below l m true g h = omega arith
+trace-below l m false g h = omega arith
 
 pub tells : (v : Question) → Sized (questionPaper v) → (n : ℕ) → n ≡ hostNumber (questionPaper v) → Tells n v
 unfolding hostNumber
-tells (Trace l m) z n e =
-    let p = z .0 in
-    let q = z .1 .1 in
-    (omega arith, (omega arith, (omega arith, z .1 .0)))
+tells (Trace l m d) z n e =
+    let w = trace-parts l m d (z .0) (z .1 .1) in
+    (rw e (trace-below l m d (z .0) (z .1 .1)), (rw e (w .0), (rw e (w .1 .0), (rw e (w .1 .1), z .1 .0))))
 tells (Channel c) z n e = let p = z .1 in (omega arith, (e, z .0))
 tells NoTrace z n e = e
 tells (Refused i f l c) z n e = refused-as i f l c z n e
@@ -87,8 +99,8 @@ pub set-answer : (r s x : Sheet) → (v : SetAnswer) × (setPaper v ≡ check r 
 unfolding check answer
 set-answer r s x = go (verdict r s x)
   where
-    go : (u : Verdict) → (v : SetAnswer) × (setPaper v ≡ answer u (accepted (points r) (points s) (relations x) (allTraces x)))
-    go fine = (Accepted (points r) (points s) (relations x) (allTraces x), refl)
+    go : (u : Verdict) → (v : SetAnswer) × (setPaper v ≡ answer u (accepted (points r) (points s) (relations x) (allTraces x) (deadTraces r x)))
+    go fine = (Accepted (points r) (points s) (relations x) (allTraces x) (deadTraces r x), refl)
     go (refused (№ i f l c)) = (SetRefused i f l c, refl)
 
 after : (u : Verdict) (a : Answer) → (v : Question) × (questionPaper v ≡ a) → (v : Question) × (questionPaper v ≡ answer u a)
@@ -99,7 +111,7 @@ after (refused (№ i f l c)) a w = (Refused i f l c, refl)
 pub lookup-answer : (r s x : Sheet) (t : List ℕ) (n c : ℕ) → (v : Question) × (questionPaper v ≡ lookup r s x t n c)
 unfolding lookup
 lookup-answer r s x t n c =
-    after (run _) (found r x t n c) (⊎-elim (λ w. (Trace _ _, sym (w .2))) (λ w. (NoTrace, sym (w .1))) (found-view r x t n c))
+    after (run _) (found r x t n c) (⊎-elim (λ w. (Trace _ _ _, sym (w .2))) (λ w. (NoTrace, sym (w .1))) (found-view r x t n c))
 
 pub back-answer : (r s x : Sheet) (t : List ℕ) (n j m : ℕ) → (v : Question) × (questionPaper v ≡ wayBack r s x t n j m)
 unfolding wayBack

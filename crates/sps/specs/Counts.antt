@@ -23,9 +23,9 @@ unfoldable pub placedFrom : ℕ → List ℕ → List ℕ → List ℕ
 placedFrom i vs o = take (8 * i) o ++ placed vs (drop (8 * i) o)
 
 unfoldable pub counted : Answer → List ℕ → List ℕ
-counted (accepted n m k t) o = placed (n ∷ m ∷ k ∷ t ∷ []) o
+counted (accepted n m k t d) o = placed (n ∷ m ∷ k ∷ t ∷ d ∷ []) o
 counted (refusal w) o = o
-counted (trace l m) o = o
+counted (trace l m d) o = o
 counted (channel c) o = o
 counted (highest c) o = o
 counted (headerLine l) o = o

@@ -12,6 +12,7 @@ use Prim.Native.Nat.{ℕ, _+_, _*_, _/_, _%_, _^_, _≤_, _<_}
 use mathlib.Core.Path.{_≡_}
 use mathlib.Core.List.{List, [], _∷_}
 use lib.ListN.{length, getD, take, drop}
+use Rattle.rules.specs.Places.{pick}
 use Rattle.sets.specs.declared.Answer.{Answer as SetAnswer}
 use Rattle.sets.specs.declared.Answer.the-variants.{Accepted, Refused as SetRefused}
 use Rattle.tables.specs.declared.Answer.{Answer as LineAnswer}
@@ -26,11 +27,11 @@ RefusedAs n i f l c =
     (2 ^ 40 ≤ n) × ((n / 2 ^ 40 ≡ i) × ((n / 2 ^ 32 % 256 ≡ f) × ((n / 256 % 2 ^ 24 ≡ l) × (n % 256 ≡ c))))
 
 abbrev pub TellsSet : ℕ → SetAnswer → Type 0
-TellsSet n (Accepted a b c t) = (n < 2 ^ 40) × (n ≡ t)
+TellsSet n (Accepted a b c t d) = (n < 2 ^ 40) × (n ≡ t)
 TellsSet n (SetRefused i f l c) = RefusedAs n i f l c
 
 abbrev pub Tells : ℕ → Answer → Type 0
-Tells n (Trace l m) = (n < 2 ^ 40) × ((n / 16 ≡ l) × ((n % 16 ≡ m) × (1 ≤ m)))
+Tells n (Trace l m d) = (n < 2 ^ 40) × ((n / 2 ^ 32 ≡ pick d 1 0) × ((n % 2 ^ 32 / 16 ≡ l) × ((n % 16 ≡ m) × (1 ≤ m))))
 Tells n (Channel c) = (n < 2 ^ 40) × ((n ≡ c) × (1 ≤ c))
 Tells n NoTrace = n ≡ 0
 Tells n (Refused i f l c) = RefusedAs n i f l c
@@ -52,8 +53,8 @@ readAt i o = valueOf (take 8 (drop (8 * i) o))
 
 pub record CountsTold (v : SetAnswer) (o e : List ℕ) : Type 0 where
   pub size : length e ≡ length o
-  -- the receivers, shots, relation lines and traces, in the places that the slice has whole
-  pub written : (a b c t : ℕ) → v ≡ Accepted a b c t → (i : ℕ) → i < 4 → 8 * i + 8 ≤ length o → readAt i e ≡ getD (a ∷ b ∷ c ∷ t ∷ []) i 0
-  -- "bytes at its end too few for a number are no place and stay", and so does all after the fourth
-  pub others : (i : ℕ) → (i < 4 → length o < 8 * i + 8) → drop (8 * i) e ≡ drop (8 * i) o
+  -- the receivers, shots, relation lines, traces and dead traces, in the places that the slice has whole
+  pub written : (a b c t d : ℕ) → v ≡ Accepted a b c t d → (i : ℕ) → i < 5 → 8 * i + 8 ≤ length o → readAt i e ≡ getD (a ∷ b ∷ c ∷ t ∷ d ∷ []) i 0
+  -- "bytes at its end too few for a number are no place and stay", and so does all after the fifth
+  pub others : (i : ℕ) → (i < 5 → length o < 8 * i + 8) → drop (8 * i) e ≡ drop (8 * i) o
   pub unwritten : (i f l c : ℕ) → v ≡ SetRefused i f l c → e ≡ o

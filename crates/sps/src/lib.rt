@@ -3,6 +3,8 @@
 // Each carries the answer of the proved call over as one 64-bit number: a refusal from 2^40 on, any other answer below. The number of the
 // medium comes first, and is looked at before all else.
 ghost use mathlib.Core.Path.{_≡_};
+ghost use Prim.Native.Nat.{_^_};
+ghost use Rattle.rules.specs.Places.{pick};
 ghost use Rattle.rules.specs.Plan.{№};
 ghost use Rattle.rules.specs.Layout.{sps93};
 ghost use Rattle.rules.specs.Medium.{sheet};
@@ -35,27 +37,37 @@ fn set_number(a: SetAnswer) -> u64
     ensures value { λ n. ⌜ n ≡ hostNumber (setPaper a) ⌝ }
 {
     match a {
-        SetAnswer::Accepted(_, _, _, t) => t,
+        SetAnswer::Accepted(_, _, _, t, _) => t,
         SetAnswer::Refused(n, f, l, c) => pack(n, f, l, c),
     }
 }
 
-// Puts the receivers, shots, relation lines and traces of an accepted set. A refusal writes nothing.
+// Puts the receivers, shots, relation lines, traces and dead traces of an accepted set. A refusal writes nothing.
 fn put_counts(a: SetAnswer, counts: &mut [u8])
     ensures written { λ _. ⌜ now (counts .exit) ≡ counted (setPaper a) (now (counts .entry)) ⌝ }
 {
     match a {
-        SetAnswer::Accepted(n, m, k, t) => places::put_all(&[n, m, k, t], counts),
+        SetAnswer::Accepted(n, m, k, t, d) => places::put_all(&[n, m, k, t, d], counts),
         SetAnswer::Refused(_, _, _, _) => {}
     }
 }
 
-// The answer to a lookup or the way back as one number: the R line and component, the channel, or 0.
+// The mark of a killed receiver.
+fn mark(killed: bool) -> u64
+    ensures value { λ n. ⌜ n ≡ pick killed (2 ^ 32) 0 ⌝ }
+{
+    if killed {
+        return 4294967296;
+    }
+    0
+}
+
+// The answer to a lookup or the way back as one number: the R line and component with the receiver's mark, the channel, or 0.
 fn question_number(a: Answer) -> u64
     ensures value { λ n. ⌜ n ≡ hostNumber (questionPaper a) ⌝ }
 {
     match a {
-        Answer::Trace(l, m) => l as u64 * 16 + m as u64,
+        Answer::Trace(l, m, d) => l as u64 * 16 + m as u64 + mark(d),
         Answer::Channel(c) => c as u64,
         Answer::NoTrace => 0,
         Answer::Refused(n, f, l, c) => pack(n, f, l, c),
@@ -100,7 +112,7 @@ pub extern "C" fn sps_check(medium: u64, r: &[u8], s: &[u8], x: &[u8]) -> u64
     set_number(checked(medium, r, s, x))
 }
 
-// The same, and the receivers, shots, relation lines and traces of an accepted set in counts: places of eight bytes, low byte first, of
+// The same, and the receivers, shots, relation lines, traces and dead traces of an accepted set in counts: places of eight bytes, low byte first, of
 // which those are written that counts has whole. A refusal writes nothing.
 #[no_mangle]
 pub extern "C" fn sps_counts(medium: u64, r: &[u8], s: &[u8], x: &[u8], counts: &mut [u8]) -> u64
@@ -113,7 +125,7 @@ pub extern "C" fn sps_counts(medium: u64, r: &[u8], s: &[u8], x: &[u8], counts: 
     set_number(a)
 }
 
-// The lookup: R line * 16 + component, 0 for no trace.
+// The lookup: R line * 16 + component, 2^32 more where the receiver is killed, 0 for no trace.
 #[no_mangle]
 pub extern "C" fn sps_trace(
     medium: u64,

@@ -67,7 +67,7 @@ pub fn table_line(how: Reading, r: &[u8], s: &[u8], x: &[u8], kind: u64, code: &
         return Answer::Refused(20, 0, 0, 0);
     }
     match sets::check(how, r, s, x) {
-        SetAnswer::Accepted(_, _, _, _) => Answer::Line(line_naming(how, r, i, code)),
+        SetAnswer::Accepted(_, _, _, _, _) => Answer::Line(line_naming(how, r, i, code)),
         SetAnswer::Refused(n, f, l, c) => Answer::Refused(n, f, l, c),
     }
 }

@@ -8,6 +8,7 @@
 use Prim.Native.Nat.{ℕ, _+_, _*_, _/_, _≤_, _<_}
 use mathlib.Core.Path.{_≡_, refl, sym, ap, subst, _∙_}
 use mathlib.Core.Logic.{_↔_}
+use mathlib.Core.Bool.{Bool}
 use mathlib.Core.List.{List}
 use contract.Lifetimes.{Lfts}
 use denote.Ref.{now}
@@ -119,12 +120,12 @@ module _ (q : Record) where
   able = asks (q .how) (q .receivers) (q .shots) (q .relations)
 
   -- "Within a tape and record two channels never share them."
-  pub never-shared : (c d l m : ℕ) → LookedUp q c (Trace l m) → LookedUp q d (Trace l m) → c ≡ d
-  never-shared c d l m a b =
-      told.never-shared R S X able (q .tape) (q .number) c d l m _ _ (looked-up q c _ a) (looked-up q d _ b) refl refl
+  pub never-shared : (c d l m : ℕ) (y z : Bool) → LookedUp q c (Trace l m y) → LookedUp q d (Trace l m z) → c ≡ d
+  never-shared c d l m y z a b =
+      told.never-shared R S X able (q .tape) (q .number) c d l m y z _ _ (looked-up q c _ a) (looked-up q d _ b) refl refl
 
   -- "Asked from the receiver and component the answer is that channel", and the other way round.
-  pub there-and-back : (c l m : ℕ) (v u : Answer) → LookedUp q c v → AskedBack q l m u → (v ≡ Trace l m) ↔ (u ≡ Channel c)
+  pub there-and-back : (c l m : ℕ) (v u : Answer) → LookedUp q c v → AskedBack q l m u → ((d : Bool) × (v ≡ Trace l m d)) ↔ (u ≡ Channel c)
   there-and-back c l m v u a b =
       told.forth-and-back R S X able (q .tape) (q .number) c l m v u (looked-up q c v a) (asked-back q l m u b)
 

@@ -29,19 +29,19 @@ use Rattle.traces.proofs.spread_bytes as spread-bytes
 use Rattle.traces.proofs.spread_bytes.Reads as spread-bytes-reads
 
 pub answer-one : (a b : Answer) → paper a ≡ paper b → a ≡ b
-answer-one (Trace l m) (Trace l′ m′) e = cc
-answer-one (Trace l m) (Channel c′) e = cc
-answer-one (Trace l m) NoTrace e = cc
-answer-one (Trace l m) (Refused n′ f′ l′ c′) e = cc
-answer-one (Channel c) (Trace l′ m′) e = cc
+answer-one (Trace l m d) (Trace l′ m′ d′) e = cc
+answer-one (Trace l m d) (Channel c′) e = cc
+answer-one (Trace l m d) NoTrace e = cc
+answer-one (Trace l m d) (Refused n′ f′ l′ c′) e = cc
+answer-one (Channel c) (Trace l′ m′ d′) e = cc
 answer-one (Channel c) (Channel c′) e = cc
 answer-one (Channel c) NoTrace e = cc
 answer-one (Channel c) (Refused n′ f′ l′ c′) e = cc
-answer-one NoTrace (Trace l′ m′) e = cc
+answer-one NoTrace (Trace l′ m′ d′) e = cc
 answer-one NoTrace (Channel c′) e = cc
 answer-one NoTrace NoTrace e = refl
 answer-one NoTrace (Refused n′ f′ l′ c′) e = cc
-answer-one (Refused n f l c) (Trace l′ m′) e = cc
+answer-one (Refused n f l c) (Trace l′ m′ d′) e = cc
 answer-one (Refused n f l c) (Channel c′) e = cc
 answer-one (Refused n f l c) NoTrace e = cc
 answer-one (Refused n f l c) (Refused n′ f′ l′ c′) e = cc

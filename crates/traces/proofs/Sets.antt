@@ -9,12 +9,13 @@ use Rattle.rules.specs.Places.{pick}
 use Rattle.rules.specs.Plan.{Refusal, fine, refused, №, _before_, run}
 use Rattle.rules.specs.Layout.{sps93}
 use Rattle.rules.specs.Sheet.{Sheet, mostLines}
+use Rattle.rules.specs.Points.{pointAt, isKilled}
 use Rattle.rules.specs.Relations.{reachAt}
 use Rattle.rules.specs.Cover.{carries, leads, component}
 use Rattle.rules.specs.Order.{lineOfPoint, receiverLine}
 use Rattle.rules.specs.Reaches.{reachesOf, search}
 use Rattle.rules.specs.Form.{form}
-use Rattle.rules.specs.Check.{Answer as PaperAnswer, refusal, trace, noTrace, rules, verdict, answer}
+use Rattle.rules.specs.Check.{Answer as PaperAnswer, leadsToKilled, refusal, trace, noTrace, rules, verdict, answer}
 use Rattle.rules.specs.Questions.{recordAsked, channelAsked, rule20}
 use Rattle.rules.specs.Lookup.{found}
 use Rattle.rules.proofs.Least.{least-below}
@@ -22,6 +23,8 @@ use Rattle.rules.proofs.Breach.{run-met}
 use Rattle.rules.proofs.Meets.{form-is}
 use Rattle.rules.proofs.Meets.{verdict-meets}
 use Rattle.rules.specs.MeetsCover.{Reached}
+use Rattle.rules.proofs.Form.{data-is}
+use Rattle.rules.proofs.Accepted.{receiver-there}
 use Rattle.rules.proofs.Cover.{reached, carries-is}
 use Rattle.lines.specs.Reading.{sheetOf}
 use Rattle.lines.specs.declared.Reading.{Reading}
@@ -122,7 +125,19 @@ module _ (r x : Sheet) (ok : Accepted r x) (k c : ℕ) (h : RelationLine x k) (y
   unfolding receiverLine lineOfPoint mostLines
   line-small n = let a : receiverLine r (reachAt x k) n ≤ r .count = least-below (r .count) _ in let b = ok .receivers .few in omega arith
 
-  pub leads-there : (n m j : ℕ) → n ≡ leads (reachAt x k) c → m ≡ component (reachAt x k) c → j ≡ receiverLine r (reachAt x k) n
-      → trace (j + 1) m ≡ tracedOn r (reachAt x k) c
-  unfolding tracedOn
-  leads-there n m j en em ej = ap₂ trace (ap (λ (i : ℕ). i + 1) (ej ∙ ap (receiverLine r (reachAt x k)) en)) em
+  pub leads-inside : (n j : ℕ) → n ≡ leads (reachAt x k) c → j ≡ receiverLine r (reachAt x k) n → j < r .count
+  unfolding verdict
+  leads-inside n j en ej =
+      let m = verdict-meets r (ok .shots) x .0 (sym (ok .met)) in
+      let a = receiver-there r (ok .shots) x m k (leads (reachAt x k) c) (h .0) (data-is x k .0 (h .1)) (arrives .0) .0 in
+      let e = ej ∙ ap (receiverLine r (reachAt x k)) en in
+      omega arith
+
+  pub leads-there : (n m j : ℕ) (d : Bool) → n ≡ leads (reachAt x k) c → m ≡ component (reachAt x k) c → j ≡ receiverLine r (reachAt x k) n
+      → d ≡ isKilled (pointAt r j) → trace (j + 1) m d ≡ tracedOn r (reachAt x k) c
+  unfolding tracedOn leadsToKilled
+  leads-there n m j d en em ej ed =
+      let e = ej ∙ ap (receiverLine r (reachAt x k)) en in
+      ap₂ (λ (i m : ℕ). trace (i + 1) m d) e em
+      ∙ ap (trace (receiverLine r (reachAt x k) (leads (reachAt x k) c) + 1) (component (reachAt x k) c))
+      (ed ∙ ap (λ (i : ℕ). isKilled (pointAt r i)) e)

@@ -4,10 +4,12 @@ use native.Mathlib.Nat.{not-suc-le-zero}
 use native.Mathlib.Omega.{arith}
 use mathlib.Core.Path.{_≡_, refl, sym, ap, subst, _∙_}
 use mathlib.Core.Logic.{_↔_, inl, Iff·trans}
+use mathlib.Core.Bool.{Bool}
 use mathlib.Core.List.{List}
 use lib.ListN.{length, getD}
 use Rattle.rules.specs.Plan.{Refusal, №, Verdict, fine, refused}
 use Rattle.rules.specs.Sheet.{Sheet}
+use Rattle.rules.specs.Points.{pointAt, isKilled}
 use Rattle.rules.specs.Relations.{reachAt}
 use Rattle.rules.specs.Check.{Answer as PaperAnswer, refusal, trace, channel, highest, noTrace, answer}
 use Rattle.rules.specs.Lookup.{lookup, wayBack}
@@ -17,7 +19,8 @@ use Rattle.rules.specs.MeetsCover.{Carries}
 use Rattle.rules.specs.Meets.{Meets}
 use Rattle.rules.specs.MeetsQuestions.{Asked, Of, Absent, Highest as HighestOf}
 use Rattle.rules.proofs.Demand3.{Askable, answered, highest-answered, lookup-leads, lookup-once}
-use Rattle.rules.proofs.Demand3.{there-and-back, lookup-none, back-none, lookup-refuses, back-refuses}
+use Rattle.rules.proofs.Order.{killed-is}
+use Rattle.rules.proofs.Demand3.{lookup-marks, there-and-back, lookup-none, back-none, lookup-refuses, back-refuses}
 use Rattle.rules.proofs.Turns.{numbers-length}
 use Rattle.rules.proofs.Spreads.{spread-fine, spread-refuses, highest-there, highest-one, refused-stays, filled}
 use Rattle.rules.proofs.Spreads.{slice-length, slice-later, slice-agrees, slice-numbers, odd-stays}
@@ -39,6 +42,7 @@ module _ (r s x : Sheet) (asks : Meets r s x → Askable x) (t : List ℕ) (n : 
   traced c v e =
       record {
         leads = λ ok k h o f. lead ok k h o f;
+        marked = λ l m d y. lookup-marks r s x t n c l m d (sym e ∙ ap paper y);
         none = Iff·trans (answers v NoTrace _ e) (lookup-none r s x t n c);
         refused = λ i f l d. Iff·trans (answers v (Refused i f l d) _ e) (lookup-refuses r s x t n c (№ i f l d));
       }
@@ -47,7 +51,7 @@ module _ (r s x : Sheet) (asks : Meets r s x → Askable x) (t : List ℕ) (n : 
       lead ok k h o f =
           let w = lookup-leads r s x ok (asks ok) k c h (o .0) f in
           let q : lookup r s x t n c ≡ lookup r s x (reachAt x k .tape) (reachAt x k .number) c = rw (o .1 .0, o .1 .1) in
-          (w .0, w .1, w .2, w .3, answer-one v (Trace (w .0 + 1) _) (e ∙ q ∙ w .4))
+          (w .0, w .1, w .2, w .3, (isKilled (pointAt r (w .0)), killed-is _, answer-one v (Trace (w .0 + 1) _ _) (e ∙ q ∙ w .4)))
 
   pub came-back : (j m : ℕ) (v : Answer) → paper v ≡ wayBack r s x t n j m → Returned r s x t n j m v
   came-back j m v e =
@@ -56,17 +60,18 @@ module _ (r s x : Sheet) (asks : Meets r s x → Askable x) (t : List ℕ) (n : 
         refused = λ i f l d. Iff·trans (answers v (Refused i f l d) _ e) (back-refuses r s x t n j m (№ i f l d));
       }
 
-  pub never-shared : (c d l m : ℕ) (v u : Answer) → paper v ≡ lookup r s x t n c → paper u ≡ lookup r s x t n d
-      → v ≡ Trace l m → u ≡ Trace l m → c ≡ d
-  never-shared c d l m v u e f y z = lookup-once r s x t n c d l m (sym e ∙ ap paper y) (sym f ∙ ap paper z)
+  pub never-shared : (c d l m : ℕ) (a b : Bool) (v u : Answer) → paper v ≡ lookup r s x t n c → paper u ≡ lookup r s x t n d
+      → v ≡ Trace l m a → u ≡ Trace l m b → c ≡ d
+  never-shared c d l m a b v u e f y z = lookup-once r s x t n c d l m a b (sym e ∙ ap paper y) (sym f ∙ ap paper z)
 
   pub forth-and-back : (c l m : ℕ) (v u : Answer) → paper v ≡ lookup r s x t n c → paper u ≡ wayBack r s x t n l m
-      → (v ≡ Trace l m) ↔ (u ≡ Channel c)
+      → ((d : Bool) × (v ≡ Trace l m d)) ↔ (u ≡ Channel c)
   forth-and-back c l m v u e f =
-      Iff·trans (answers v (Trace l m) _ e) (Iff·trans (there-and-back r s x t n c l m) (swap (answers u (Channel c) _ f)))
-    where
-      swap : {A B : Type 0} → A ↔ B → B ↔ A
-      swap b = (b .1, b .0)
+      let b = there-and-back r s x t n c l m in
+      let a = answers u (Channel c) _ f in (
+        λ w. a .1 (b .0 (w .0, answers v (Trace l m (w .0)) _ e .0 (w .1))),
+        λ y. let w = b .1 (a .0 y) in (w .0, answers v (Trace l m (w .0)) _ e .1 (w .1)),
+      )
 
 -- the spread table
 module _ (r s x : Sheet) (t : List ℕ) (n a b : ℕ) where

@@ -9,7 +9,7 @@ use Rattle.traces.specs.declared.Spread.{Spread}
 use Rattle.traces.specs.declared.Spread.the-variants.{Highest, Refused as Denied}
 
 abbrev pub paper : Answer → PaperAnswer
-paper (Trace l m) = trace l m
+paper (Trace l m d) = trace l m d
 paper (Channel c) = channel c
 paper NoTrace = noTrace
 paper (Refused n f l c) = refusal (№ n f l c)

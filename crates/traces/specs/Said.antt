@@ -1,10 +1,11 @@
 -- Demand 3 in words: what the answers to the questions say of the sheets of a set.
---   LeadsTo r q c v          = v is the one receiver line and the component that channel c of a relation line leads to
+--   LeadsTo r q c v          = v is the one receiver line and the component that channel c of a relation line leads to, with the receiver's mark
 --   Traced r s x t n c v     = what the lookup's answer v says
 --   Returned r s x t n j m v = what the way back's answer v says
 --   Slice h part old new     = part 1 to part h stand in the first h places of a slice, and its later places stay
 --   Tabled read r s x t n .. = what the spread table's answer v says, and what stands in its slices; read gives the numbers of the first
-use Prim.Native.Nat.{ℕ, _+_, _≤_, _<_}
+use Prim.Native.Nat.{ℕ, _+_, _-_, _≤_, _<_}
+use mathlib.Core.Bool.{Bool, true}
 use mathlib.Core.Path.{_≡_}
 use mathlib.Core.Logic.{_↔_}
 use mathlib.Core.List.{List}
@@ -17,7 +18,7 @@ use Rattle.rules.specs.Check.{Answer as PaperAnswer}
 use Rattle.rules.specs.Lookup.{lookup}
 use Rattle.rules.specs.Spread.{lineOf, componentOf}
 use Rattle.rules.specs.MeetsCover.{Carries}
-use Rattle.rules.specs.MeetsSet.{Receiver}
+use Rattle.rules.specs.MeetsSet.{Receiver, Killed}
 use Rattle.rules.specs.Meets.{Meets}
 use Rattle.rules.specs.Refuses.{First}
 use Rattle.rules.specs.MeetsQuestions.{Asked, AskedChannel, AskedLine, Of, Uncovered, Unreached, Absent, Highest as HighestOf}
@@ -30,11 +31,14 @@ use Rattle.traces.specs.declared.Spread.the-variants.{Highest, Refused a
 abbrev pub LeadsTo : Sheet → Reach → ℕ → Answer → Type 0
 LeadsTo r q c v =
     (j : ℕ) × (j < r .count) × Receiver r q (leadsTo q c) j
-    × ((i : ℕ) → i < r .count → Receiver r q (leadsTo q c) i → i ≡ j) × (v ≡ Trace (j + 1) (component q c))
+    × ((i : ℕ) → i < r .count → Receiver r q (leadsTo q c) i → i ≡ j)
+    × ((d : Bool) × ((d ≡ true) ↔ Killed r j) × (v ≡ Trace (j + 1) (component q c) d))
 
 pub record Traced (r s x : Sheet) (t : List ℕ) (n c : ℕ) (v : Answer) : Type 0 where
   -- "each tape, record and channel covered by a relation line leads to one receiver line and one component, those of the line's arithmetic"
   pub leads : Meets r s x → (k : ℕ) → k < x .count → Of x t n k → Carries (reachAt x k) c → LeadsTo r (reachAt x k) c v
+  -- "Lookups answer killed beside the receiver"
+  pub marked : (l m : ℕ) (d : Bool) → v ≡ Trace l m d → (d ≡ true) ↔ Killed r (l - 1)
   -- "what is not covered is answered "no trace""
   pub none : (v ≡ NoTrace) ↔ ((Asked (x .layout) t n × AskedChannel (x .layout) c) × (Meets r s x × Uncovered x t n c))
   -- "20 comes before 1 to 19"

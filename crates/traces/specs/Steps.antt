@@ -14,7 +14,7 @@ use Rattle.rules.specs.Points.{pointAt}
 use Rattle.rules.specs.Cover.{carries, leads, component}
 use Rattle.rules.specs.Lookup.{reaches}
 use Rattle.rules.specs.Order.{receiverLine}
-use Rattle.rules.specs.Check.{Answer, trace}
+use Rattle.rules.specs.Check.{Answer, leadsToKilled, trace}
 use Rattle.form.specs.Known.{Known}
 use Rattle.spread.specs.Asked.{isOf}
 use Rattle.spread.specs.declared.wanted.Wanted.{Wanted}
@@ -25,7 +25,7 @@ unfoldable pub passes : Sheet → Wanted → (Reach → Bool) → ℕ → Bool
 passes x w p k = isOf x w k && p (reachAt x k)
 
 unfoldable pub tracedOn : Sheet → Reach → ℕ → Answer
-tracedOn r q c = trace (receiverLine r q (leads q c) + 1) (component q c)
+tracedOn r q c = trace (receiverLine r q (leads q c) + 1) (component q c) (leadsToKilled r q c)
 
 abbrev pub ReceiverLine : Sheet → ℕ → Type 0
 ReceiverLine r i = Known 1 r × ((i < r .count) × (isPoint r i ≡ true))

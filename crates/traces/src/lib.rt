@@ -28,10 +28,10 @@ mod back;
 mod forth;
 mod search;
 
-// What a question is answered: a receiver's line in R and its component, a channel, no trace; or a refusal, with number, file, line
-// and column.
+// What a question is answered: a receiver's line in R, its component and whether it is killed, a channel, no trace; or a refusal, with number,
+// file, line and column.
 pub enum Answer {
-    Trace(u32, u8),
+    Trace(u32, u8, bool),
     Channel(u32),
     NoTrace,
     Refused(u8, u8, u32, u8),
@@ -57,7 +57,11 @@ fn traced(how: Reading, r: &[u8], x: &[u8], k: usize, channel: u64) -> Answer
 {
     let q = relation::reach_of(&lines::line_of(how, x, k));
     let j = forth::receiver_line(how, r, x, k, cover::leads(q, channel) as u32);
-    Answer::Trace(j as u32 + 1, cover::component(q, channel) as u8)
+    Answer::Trace(
+        j as u32 + 1,
+        cover::component(q, channel) as u8,
+        keys::killed(how, r, j),
+    )
 }
 
 // What a channel of that tape and record leads to in an accepted set.
@@ -86,7 +90,7 @@ pub fn trace(q: Question, r: &[u8], s: &[u8], x: &[u8], tape: &[u8], channel: u6
         return Answer::Refused(20, 0, 0, 0);
     }
     match sets::check(how, r, s, x) {
-        SetAnswer::Accepted(_, _, _, _) => found(how, r, x, tape, record, channel),
+        SetAnswer::Accepted(_, _, _, _, _) => found(how, r, x, tape, record, channel),
         SetAnswer::Refused(i, f, l, e) => Answer::Refused(i, f, l, e),
     }
 }
@@ -161,7 +165,15 @@ pub fn channel(
         return Answer::Refused(20, 0, 0, 0);
     }
     match sets::check(how, r, s, x) {
-        SetAnswer::Accepted(_, _, _, _) => found_back(how, r, x, tape, record, r_line, component),
+        SetAnswer::Accepted(_, _, _, _, _) => found_back(
+            how,
+            r,
+            x,
+            tape,
+            record,
+            r_line,
+            component,
+        ),
         SetAnswer::Refused(i, f, l, e) => Answer::Refused(i, f, l, e),
     }
 }

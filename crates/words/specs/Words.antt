@@ -1,5 +1,5 @@
 -- "It prints one line": what the program says of a set or of a file, as bytes.
---   row w a b c d   = a word and four values, a blank before each, and a line feed
+--   row w vs        = a word and values, a blank before each, and a line feed
 --   line a          = the line of an answer to the set check; none of another answer
 --   noFile i        = the line of file i where it is missing
 --   tooLong i       = the line of file i where it is above the buffer
@@ -11,13 +11,17 @@ use Rattle.rules.specs.Plan.{№}
 use Rattle.rules.specs.Check.{Answer, accepted, refusal, trace, channel, highest, headerLine, noTrace}
 use Rattle.words.specs.Digits.{decimal}
 
-unfoldable pub row : List ℕ → List ℕ → List ℕ → List ℕ → List ℕ → List ℕ
-row w a b c d = w ++ ((32 ∷ a) ++ ((32 ∷ b) ++ ((32 ∷ c) ++ ((32 ∷ d) ++ (10 ∷ [])))))
+unfoldable pub values : List (List ℕ) → List ℕ
+values [] = 10 ∷ []
+values (v ∷ vs) = (32 ∷ v) ++ values vs
+
+unfoldable pub row : List ℕ → List (List ℕ) → List ℕ
+row w vs = w ++ values vs
 
 unfoldable pub line : Answer → List ℕ
-line (accepted r s x t) = row (bytes "ACCEPTED") (decimal r) (decimal s) (decimal x) (decimal t)
-line (refusal (№ n f l c)) = row (bytes "REFUSED") (decimal n) (letter f ∷ []) (decimal l) (decimal c)
-line (trace l m) = []
+line (accepted r s x t d) = row (bytes "ACCEPTED") (decimal r ∷ decimal s ∷ decimal x ∷ decimal t ∷ decimal d ∷ [])
+line (refusal (№ n f l c)) = row (bytes "REFUSED") (decimal n ∷ (letter f ∷ []) ∷ decimal l ∷ decimal c ∷ [])
+line (trace l m d) = []
 line (channel c) = []
 line (highest c) = []
 line (headerLine l) = []

@@ -25,22 +25,25 @@ pub fn place(p: &[u8], out: &mut [u8])
 }
 
 // The line of an accepted set.
-fn accepted(r: u64, s: u64, x: u64, t: u64, line: &mut [u8; 96]) -> usize
-    ensures added { λ n. ⌜ Adds (now (line .entry)) 0 (rowOf (bytes "ACCEPTED") (decimal r) (decimal s) (decimal x) (decimal t)) (now (line .exit)) n ⌝ }
-    ensures small { λ n. ⌜ n ≤ 93 ⌝ }
+fn accepted(r: u64, s: u64, x: u64, t: u64, d: u64, line: &mut [u8; 120]) -> usize
+    ensures added { λ n. ⌜ Adds (now (line .entry)) 0
+        (rowOf (bytes "ACCEPTED") (decimal r ∷ decimal s ∷ decimal x ∷ decimal t ∷ decimal d ∷ [])) (now (line .exit)) n ⌝ }
+    ensures small { λ n. ⌜ n ≤ 114 ⌝ }
 {
     let a = text::add(b"ACCEPTED", line, 0);
     let b = text::number(r, line, a);
     let c = text::number(s, line, b);
-    let d = text::number(x, line, c);
-    let e = text::number(t, line, d);
-    text::byte(b'\n', line, e)
+    let e = text::number(x, line, c);
+    let f = text::number(t, line, e);
+    let g = text::number(d, line, f);
+    text::byte(b'\n', line, g)
 }
 
 // The line of a refused set.
-fn refused(n: u8, f: u8, l: u32, c: u8, line: &mut [u8; 96]) -> usize
-    ensures added { λ m. ⌜ Adds (now (line .entry)) 0 (rowOf (bytes "REFUSED") (decimal n) (letterOf f ∷ []) (decimal l) (decimal c)) (now (line .exit)) m ⌝ }
-    ensures small { λ m. ⌜ m ≤ 93 ⌝ }
+fn refused(n: u8, f: u8, l: u32, c: u8, line: &mut [u8; 120]) -> usize
+    ensures added { λ m. ⌜ Adds (now (line .entry)) 0
+        (rowOf (bytes "REFUSED") (decimal n ∷ (letterOf f ∷ []) ∷ decimal l ∷ decimal c ∷ [])) (now (line .exit)) m ⌝ }
+    ensures small { λ m. ⌜ m ≤ 114 ⌝ }
 {
     let a = text::add(b"REFUSED", line, 0);
     let b = text::number(n as u64, line, a);
@@ -52,12 +55,12 @@ fn refused(n: u8, f: u8, l: u32, c: u8, line: &mut [u8; 96]) -> usize
 }
 
 // The line of an answer to the set check.
-fn spell(a: Answer, line: &mut [u8; 96]) -> usize
+fn spell(a: Answer, line: &mut [u8; 120]) -> usize
     ensures added { λ n. ⌜ Adds (now (line .entry)) 0 (lineOf (paper a)) (now (line .exit)) n ⌝ }
-    ensures small { λ n. ⌜ n ≤ 93 ⌝ }
+    ensures small { λ n. ⌜ n ≤ 114 ⌝ }
 {
     match a {
-        Answer::Accepted(r, s, x, t) => accepted(r, s, x, t, line),
+        Answer::Accepted(r, s, x, t, d) => accepted(r, s, x, t, d, line),
         Answer::Refused(n, f, l, c) => refused(n, f, l, c, line),
     }
 }
@@ -66,9 +69,9 @@ fn spell(a: Answer, line: &mut [u8; 96]) -> usize
 pub fn verdict(a: Answer, out: &mut [u8]) -> usize
     ensures value { λ n. ⌜ n ≡ length (lineOf (paper a)) ⌝ }
     ensures written { λ _. ⌜ now (out .exit) ≡ over (lineOf (paper a)) (now (out .entry)) ⌝ }
-    ensures small { λ n. ⌜ n ≤ 93 ⌝ }
+    ensures small { λ n. ⌜ n ≤ 114 ⌝ }
 {
-    let mut line = [0u8; 96];
+    let mut line = [0u8; 120];
     let n = spell(a, &mut line);
     place(&line[..n], out);
     n

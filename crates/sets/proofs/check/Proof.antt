@@ -1,6 +1,7 @@
 -- `sets::check` meets its contract. Assumes nothing.
 use Rattle.form.proofs.Laws.{is-broken, is-met}
 use Rattle.sets.proofs.Answers.{judged-across, known-set, refused-codes, refused-forms, refused-heads}
+use Rattle.lines.proofs.Sheets.{rank-same}
 use borrow.Author.Needs.{needs}
 use Rattle.sets.proofs.check.Statement.{statement}
 use Rattle.sets.proofs.check.Tie as tie
@@ -57,9 +58,18 @@ enum-told-3 c = search needs
 
 answer-across-requires : tie.Need-answer-across-requires
 answer-across-requires c κs =
-    let b = c .before .before .before .before .before .before in
-    let a = b .before .before .before .before .before .before .args in
-    known-set (a .how) (a .r .now) (a .s .now) (a .x .now) (is-met _ _ (b .before .before .forms .ensures) (b .enum-told .given .1))
+    let h = c .before .before in
+    let b = h .before .before .before in
+    let f = b .before .before .before in
+    let a = f .before .before .before .before .args in
+    let m = is-met _ _ (f .forms .ensures) (b .before .enum-told .given .1) in
+    record {
+      known = known-set (a .how) (a .r .now) (a .s .now) (a .x .now) m;
+      forms = m;
+      heads = is-met _ _ (b .headers-fit .ensures) (h .before .enum-told2 .given .1);
+      codes = is-met _ _ (h .codes-fit .ensures) (c .enum-told3 .given .1);
+      alike = rank-same (a .how) (a .r .now) (a .x .now);
+    }
 
 returns-4 : tie.Need-returns-4
 returns-4 c =

@@ -12,11 +12,11 @@ use Rattle.shots.proofs.onward.Statement.{statement}
 use Rattle.shots.proofs.onward.Tie as tie
 
 abbrev Inv-loop : tie.InvT-loop
-Inv-loop s x k from y z n j₀ j =
-    (from ≤ j) × ((i : ℕ) → from ≤ i → i < j → isShot (sheetOf (z .how) s) (sheetOf (z .how) x) k i ≡ true → ⊥)
+Inv-loop how s x k from y n j₀ j =
+    (from ≤ j) × ((i : ℕ) → from ≤ i → i < j → isShot (sheetOf how s) (sheetOf how x) k i ≡ true → ⊥)
 
 abbrev μ-loop : tie.MeasureT-loop
-μ-loop s x k from y z n j₀ j = n - j
+μ-loop how s x k from y n j₀ j = n - j
 
 shot-key-requires : tie.Need-shot-key-requires Inv-loop μ-loop
 shot-key-requires c κs = c .before .before .pre .1 .0
@@ -27,8 +27,8 @@ line-count-requires c κs = search needs
 loop-holds : tie.Need-loop-holds Inv-loop μ-loop
 loop-holds c = (omega arith, λ i l g. absurd (omega arith))
 
-holds-requires : tie.Need-holds-requires Inv-loop μ-loop
-holds-requires c κs = search needs
+holds-shot-requires : tie.Need-holds-shot-requires Inv-loop μ-loop
+holds-shot-requires c κs = search needs
 
 returns : tie.Need-returns Inv-loop μ-loop
 unfolding onward
@@ -38,7 +38,7 @@ returns c =
     let p = b .before .before .before .before .before .pre in
     let at = b .loop in
     let n = b .before .line-count .ensures in
-    let e = c .before .holds .ensures ∙ held-at (a .how) (a .s .now) (a .x .now) (p .0 .0) (p .0 .1) (a .k) (p .1) _
+    let e = c .before .holds-shot .ensures ∙ held-at (a .how) (a .s .now) (a .x .now) (p .0 .0) (p .0 .1) (a .k) (p .1) _
     (b .before .before .shot-key .ensures) (at .j) (omega arith) in
     from-first _ _ _ (at .j) (at .inv .0) (omega arith) (sym e ∙ c .if1 .taken) (at .inv .1)
 
@@ -55,7 +55,7 @@ loop-again c =
     let p = b .before .before .before .before .before .pre in
     let at = b .loop in
     let n = b .before .line-count .ensures in
-    let e = c .before .holds .ensures ∙ held-at (a .how) (a .s .now) (a .x .now) (p .0 .0) (p .0 .1) (a .k) (p .1) _
+    let e = c .before .holds-shot .ensures ∙ held-at (a .how) (a .s .now) (a .x .now) (p .0 .0) (p .0 .1) (a .k) (p .1) _
     (b .before .before .shot-key .ensures) (at .j) (omega arith) in
     (omega arith, past-more _ _ (at .j) (at .inv .1) (λ t. clash (sym (c .if1 .left) ∙ e ∙ t)))
 
@@ -75,7 +75,7 @@ onward-spec =
     shot-key-requires
     line-count-requires
     loop-holds
-    holds-requires
+    holds-shot-requires
     returns
     add-j
     loop-less

@@ -31,8 +31,8 @@ loop-holds c =
     let p = c .before .before .before .before .pre in
     (omega arith, (at-first _ _ (p .shots) (formed 3 _ (p .relations) .rule4) (p .met) _ (c .heads .ensures), none-yet _))
 
-takes-requires : tie.Need-takes-requires Inv-loop μ-loop
-takes-requires c κs = search needs
+is-live-requires : tie.Need-is-live-requires Inv-loop μ-loop
+is-live-requires c κs = search needs
 
 key-of-requires : tie.Need-key-of-requires Inv-loop μ-loop
 key-of-requires c κs = search needs
@@ -60,7 +60,7 @@ returns c =
     c .at-line .ensures
     ∙ stops-here _ (at .k) _ _ h (at .inv .1 .1)
     (step-unnamed _ _ p (rank-same (a .how) (a .s .now) (a .x .now)) (at .k) (at .j) h (at .inv .1 .0) _
-    (c .before .before .before .before .before .takes .ensures)
+    (c .before .before .before .before .before .is-live .ensures)
     (c .before .before .before .before .if1 .taken) _ (c .before .before .before .key-of .ensures) _ (c .before .before .past .ensures)
     (c .before .if2 .taken))
 
@@ -79,7 +79,7 @@ loop-again c =
     let n = b .before .before .line-count .ensures in
     let h : at .k < sheetOf (a .how) (a .s .now) .count = omega arith in
     let w = step-named _ _ p (rank-same (a .how) (a .s .now) (a .x .now)) (at .k) (at .j) h (at .inv .1 .0) _
-    (c .before .before .before .before .takes .ensures)
+    (c .before .before .before .before .is-live .ensures)
     (c .before .before .before .if1 .taken) _ (c .before .before .key-of .ensures) _ (c .before .past .ensures) (c .if2 .left) in
     (omega arith, (w .1, one-more _ (at .k) (at .inv .1 .1) (w .0)))
 
@@ -96,7 +96,7 @@ loop-again-2 c =
     let at = c .before .before .before .loop in
     let n = c .before .before .before .before .before .line-count .ensures in
     let h : at .k < sheetOf (a .how) (a .s .now) .count = omega arith in
-    let w = step-other _ _ p (rank-same (a .how) (a .s .now) (a .x .now)) (at .k) (at .j) h (at .inv .1 .0) _ (c .before .takes .ensures) (c .if1 .left) in
+    let w = step-other _ _ p (rank-same (a .how) (a .s .now) (a .x .now)) (at .k) (at .j) h (at .inv .1 .0) _ (c .before .is-live .ensures) (c .if1 .left) in
     (omega arith, (w .1, one-more _ (at .k) (at .inv .1 .1) (w .0)))
 
 returns-2 : tie.Need-returns-2 Inv-loop μ-loop
@@ -115,7 +115,7 @@ shots-named-spec =
     line-count-requires
     heads-requires
     loop-holds
-    takes-requires
+    is-live-requires
     key-of-requires
     past-requires
     at-line-requires

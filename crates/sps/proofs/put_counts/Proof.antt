@@ -10,9 +10,9 @@ use mathlib.Core.Path.{_≡_}
 use Rattle.sps.proofs.put_counts.Statement.{statement}
 use Rattle.sps.proofs.put_counts.Tie as tie
 
-accepted : (a : Answer) (n m k t : ℕ) (o e : List ℕ) → a ≡ Accepted n m k t → e ≡ placed (n ∷ m ∷ k ∷ t ∷ []) o → e ≡ counted (paper a) o
+accepted : (a : Answer) (n m k t d : ℕ) (o e : List ℕ) → a ≡ Accepted n m k t d → e ≡ placed (n ∷ m ∷ k ∷ t ∷ d ∷ []) o → e ≡ counted (paper a) o
 unfolding counted
-accepted a n m k t o e h w = rw h w
+accepted a n m k t d o e h w = rw h w
 
 refused : (a : Answer) (n f l c : ℕ) (o : List ℕ) → a ≡ Refused n f l c → o ≡ counted (paper a) o
 unfolding counted

@@ -1,9 +1,11 @@
 -- `sps::question_number` meets its contract. Assumes nothing.
+use native.Mathlib.Omega.{arith}
+use mathlib.Core.Path.{_∙_, ap, sym}
+use borrow.Author.Needs.{needs}
 use Rattle.rules.specs.Hosts.{hostNumber}
+use Rattle.sps.proofs.Told.{mark-few}
 use Rattle.traces.specs.Paper.{paper}
 use Rattle.traces.specs.declared.Answer.{Answer}
-use borrow.Author.Needs.{needs}
-use mathlib.Core.Path.{_∙_, ap, sym}
 use Rattle.sps.proofs.question_number.Statement.{statement}
 use Rattle.sps.proofs.question_number.Tie as tie
 
@@ -22,6 +24,12 @@ cast-result-2 c = search needs
 add-result : tie.Need-add-result
 add-result c = search needs
 
+mark-requires : tie.Need-mark-requires
+mark-requires c κs = search needs
+
+add-result-2 : tie.Need-add-result-2
+add-result-2 c = let m = mark-few _ _ (c .mark .ensures) in omega arith
+
 enum-known-a-2 : tie.Need-enum-known-a-2
 enum-known-a-2 c = search needs
 
@@ -39,7 +47,7 @@ pack-requires c κs = search needs
 
 returns : tie.Need-returns
 unfolding hostNumber
-returns c = ap (λ (v : Answer). hostNumber (paper v)) (sym (c .before .a .given .1))
+returns c = rw (c .mark .ensures) (ap (λ (v : Answer). hostNumber (paper v)) (sym (c .before .before .a .given .1)))
 
 returns-2 : tie.Need-returns-2
 unfolding hostNumber
@@ -62,6 +70,8 @@ question-number-spec =
     mul-result
     cast-result-2
     add-result
+    mark-requires
+    add-result-2
     enum-known-a-2
     cast-result-3
     enum-told

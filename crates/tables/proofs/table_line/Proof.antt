@@ -29,7 +29,7 @@ line-naming-requires c κs =
     let x = y .before in
     let w = x .before .before .before .before .before in
     let a = w .args in
-    let ok = set-accepted (a .how) (a .r .now) (a .s .now) (a .x .now) _ (c .before .before .check .ensures) _ _ _ _ (c .enum-told .given .1) in (
+    let ok = set-accepted (a .how) (a .r .now) (a .s .now) (a .x .now) _ (c .before .before .check .ensures) _ _ _ _ _ (c .enum-told .given .1) in (
       few-lines (a .how) (a .r .now) (a .s .now) (a .x .now) ok,
       (few-kinds _ _ (x .kind-of .ensures), sym (y .code-asked .ensures) ∙ not-false _ (z .if1 .left)),
     )
@@ -45,7 +45,7 @@ returns-2 c =
     let w = x .before in
     let v = w .before .before .before .before .before in
     let a = v .args in
-    let ok = set-accepted (a .how) (a .r .now) (a .s .now) (a .x .now) _ (z .check .ensures) _ _ _ _ (c .before .enum-told .given .1) in
+    let ok = set-accepted (a .how) (a .r .now) (a .s .now) (a .x .now) _ (z .check .ensures) _ _ _ _ _ (c .before .enum-told .given .1) in
     told _ _ _ (a .kind) (a .code .now) _ (w .kind-of .ensures) _ (x .code-asked .ensures) (not-false _ (y .if1 .left)) ok _ (c .line-naming .ensures)
 
 returns-3 : tie.Need-returns-3

@@ -38,7 +38,7 @@ found-requires : tie.Need-found-requires
 found-requires c κs =
     let b = c .before .before .before .before .before in
     let a = b .before .before .before .before .before .before .before .args in
-    let ok = set-accepted (a .q .how) (a .r .now) (a .s .now) (a .x .now) _ (c .before .before .check .ensures) _ _ _ _ (c .enum-told .given .1) in
+    let ok = set-accepted (a .q .how) (a .r .now) (a .s .now) (a .x .now) _ (c .before .before .check .ensures) _ _ _ _ _ (c .enum-told .given .1) in
     (in-set (a .q .how) (a .r .now) (a .s .now) (a .x .now) ok, sym (b .before .«record» .ensures) ∙ not-false _ (b .if1 .left))
 
 enum-known-i : tie.Need-enum-known-i
@@ -53,7 +53,7 @@ returns-3 c =
     ∙ in-range (a .q .how) (a .r .now) (a .s .now) (a .x .now) (a .tape .now) (a .q .«record») _ _ _ (b .before .before .before .«record» .ensures)
     (not-false _ (b .before .before .if1 .left)) _
     (channel-on (a .q .how) (a .x .now) (a .channel) _ (b .before .channel .ensures)) (not-false _ (b .if2 .left))
-    (set-accepted (a .q .how) (a .r .now) (a .s .now) (a .x .now) _ (c .before .before .before .check .ensures) _ _ _ _ (c .before .enum-told .given .1))
+    (set-accepted (a .q .how) (a .r .now) (a .s .now) (a .x .now) _ (c .before .before .before .check .ensures) _ _ _ _ _ (c .before .enum-told .given .1))
 
 returns-4 : tie.Need-returns-4
 unfolding lookup

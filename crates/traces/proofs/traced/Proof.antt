@@ -2,7 +2,7 @@
 use Rattle.lines.specs.Reading.{sheetOf}
 use Rattle.rules.specs.Relations.{reachAt}
 use Rattle.spread.proofs.Asked.{reads}
-use Rattle.traces.proofs.Sets.{component-small, leads-small, leads-there, line-small, may-lead}
+use Rattle.traces.proofs.Sets.{component-small, leads-inside, leads-small, leads-there, line-small, may-lead}
 use borrow.Author.Needs.{needs}
 use native.Mathlib.Omega.{arith}
 use Rattle.traces.proofs.traced.Statement.{statement}
@@ -75,15 +75,27 @@ cast-t14 c =
     let z = c .component .ensures (reachAt X (a .k)) e in
     omega arith
 
-returns : tie.Need-returns
-returns c =
+killed-requires : tie.Need-killed-requires
+killed-requires c κs =
     let b = c .before .before .before .before .before in
     let a = b .before .before .before .args in
     let X = sheetOf (a .how) (a .x .now) in
     let p = b .before .before .before .pre in
     let e = reads (a .how) (a .x .now) (a .k) _ _ (b .line-of .ensures) (c .before .before .before .reach-of .ensures) in
-    leads-there (sheetOf (a .how) (a .r .now)) X (p .0) (a .k) (a .channel) (p .1 .0) (p .1 .1) _ e _ _ _
-    (c .before .before .leads .ensures (reachAt X (a .k)) e) (c .component .ensures (reachAt X (a .k)) e) (c .before .receiver-line .ensures)
+    leads-inside (sheetOf (a .how) (a .r .now)) X (p .0) (a .k) (a .channel) (p .1 .0) (p .1 .1) _ e _ _
+    (c .before .before .leads .ensures (reachAt X (a .k)) e) (c .before .receiver-line .ensures)
+
+returns : tie.Need-returns
+returns c =
+    let d = c .before in
+    let b = d .before .before .before .before .before in
+    let a = b .before .before .before .args in
+    let X = sheetOf (a .how) (a .x .now) in
+    let p = b .before .before .before .pre in
+    let e = reads (a .how) (a .x .now) (a .k) _ _ (b .line-of .ensures) (d .before .before .before .reach-of .ensures) in
+    leads-there (sheetOf (a .how) (a .r .now)) X (p .0) (a .k) (a .channel) (p .1 .0) (p .1 .1) _ e _ _ _ _
+    (d .before .before .leads .ensures (reachAt X (a .k)) e) (d .component .ensures (reachAt X (a .k)) e) (d .before .receiver-line .ensures)
+    (c .killed .ensures)
 
 pub traced-spec : {M : Type 1} → statement M
 traced-spec =
@@ -98,4 +110,5 @@ traced-spec =
     add-t13
     component-requires
     cast-t14
+    killed-requires
     returns)

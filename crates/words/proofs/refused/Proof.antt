@@ -2,7 +2,7 @@
 use native.Mathlib.Omega.{arith}
 use borrow.Author.Needs.{needs}
 use Rattle.rules.specs.Text.{bytes}
-use Rattle.words.specs.Words.{row}
+use Rattle.words.specs.Words.{row, values}
 use Rattle.words.proofs.Adding.{then}
 use Rattle.words.proofs.refused.Statement.{statement}
 use Rattle.words.proofs.refused.Tie as tie
@@ -35,7 +35,7 @@ byte-requires : tie.Need-byte-requires
 byte-requires c κs = search needs
 
 returns : tie.Need-returns
-unfolding row bytes
+unfolding row values bytes
 returns c =
     let b = c .before .before .before .before .before .before in
     let d = b .before .before .before in (

@@ -1,42 +1,36 @@
 -- `keys::parts::is_marker` meets its contract. Assumes nothing.
+use mathlib.Core.Path.{ap, sym, _∙_}
 use borrow.Author.Needs.{needs}
-use Rattle.lines.proofs.Sheets.{lawful}
-use Rattle.keys.proofs.Letters.{marker-other, marker-own}
+use Rattle.rules.specs.Lines.{isMarker}
+use Rattle.records.proofs.States.{marks, marker-told}
 use Rattle.keys.proofs.parts.is_marker.Statement.{statement}
 use Rattle.keys.proofs.parts.is_marker.Tie as tie
 
-element-copy-out-is-letter : tie.Need-element-copy-out-is-letter
-element-copy-out-is-letter c = search needs
+state-in-requires : tie.Need-state-in-requires
+state-in-requires c κs = search needs
 
-is-letter-requires : tie.Need-is-letter-requires
-is-letter-requires c κs = search needs
+enum-told : tie.Need-enum-told
+enum-told c = search needs
 
-element-copy-out-is-letter-2 : tie.Need-element-copy-out-is-letter-2
-element-copy-out-is-letter-2 c = search needs
+enum-told-2 : tie.Need-enum-told-2
+enum-told-2 c = search needs
 
-is-letter-requires-2 : tie.Need-is-letter-requires-2
-is-letter-requires-2 c κs = search needs
+enum-told-3 : tie.Need-enum-told-3
+enum-told-3 c = search needs
 
 returns : tie.Need-returns
-returns c =
-    let d = c .before .before in
-    let b = d .before in
-    let a = b .before .before .args in
-    marker-own _ (lawful (a .how) .null) _ _ (b .is-letter .ensures) (d .if1 .taken) _ (c .is-letter2 .ensures)
+unfolding isMarker
+returns c = ap marks (sym (c .enum-told .given .1) ∙ c .before .before .state-in .ensures) ∙ marker-told _
 
 returns-2 : tie.Need-returns-2
-returns-2 c =
-    let b = c .before in
-    let a = b .before .before .args in
-    marker-other _ (lawful (a .how) .null) _ _ (b .is-letter .ensures) (c .if1 .left)
+unfolding isMarker
+returns-2 c = ap marks (sym (c .enum-told2 .given .1) ∙ c .before .before .state-in .ensures) ∙ marker-told _
+
+returns-3 : tie.Need-returns-3
+unfolding isMarker
+returns-3 c = ap marks (sym (c .enum-told3 .given .1) ∙ c .before .before .state-in .ensures) ∙ marker-told _
 
 pub is-marker-spec : {M : Type 1} → statement M
 is-marker-spec =
     tie.close
-    (tie.spec
-    element-copy-out-is-letter
-    is-letter-requires
-    element-copy-out-is-letter-2
-    is-letter-requires-2
-    returns
-    returns-2)
+    (tie.spec state-in-requires enum-told enum-told-2 enum-told-3 returns returns-2 returns-3)

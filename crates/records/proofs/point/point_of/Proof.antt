@@ -1,15 +1,22 @@
 -- `records::point::point_of` meets its contract. Assumes nothing.
+use Prim.Native.Nat.{ℕ}
+use mathlib.Core.List.{List}
 use mir.Syntax.{w64}
 use mir.ValLaws.{toZ-ofZ}
 use Rattle.fields.specs.Paper.{number}
 use Rattle.records.proofs.Sizes.{fits-62, water-62}
 use Rattle.records.proofs.Values.{held-is}
-use Rattle.records.specs.Coded.{heldOf}
+use Rattle.records.specs.Coded.{heldOf, codedState}
 use Rattle.rules.proofs.Sizes.{tenths-small, signed-small, whole-small}
 use Rattle.rules.specs.Kinds.{code, index, time, water}
 use Rattle.rules.specs.Layout.{at, sps93}
 use Rattle.rules.specs.Numbers.{Number, signed, value, whole}
-use Rattle.rules.specs.Points.{holds, indexAt, nameOf, numberOf, point}
+use Rattle.rules.specs.Disc.{disc}
+use Rattle.rules.specs.Names.{ranked}
+use Rattle.rules.specs.Points.{holds, indexAt, nameOf, numberOf, stateOf, point}
+use Rattle.lines.specs.declared.Reading.{Reading}
+use Rattle.lines.specs.Reading.{mediumOf}
+use Rattle.lines.proofs.Sheets.{ranked-own}
 use Rattle.rules.specs.Text.{blank, cols}
 use lib.Dec.{lit≤}
 use mathlib.Core.Path.{_∙_, ap}
@@ -46,6 +53,12 @@ index-at-requires c κs = search needs
 
 pack-requires : tie.Need-pack-requires
 pack-requires c κs = search needs
+
+disc-requires : tie.Need-disc-requires
+disc-requires c κs = search needs
+
+state-in-requires : tie.Need-state-in-requires
+state-in-requires c κs = search needs
 
 decimal-requires : tie.Need-decimal-requires
 decimal-requires c κs = search needs
@@ -84,15 +97,19 @@ number-at-requires-3 : tie.Need-number-at-requires-3
 number-at-requires-3 c κs = search needs
 
 returns : tie.Need-returns
-unfolding point sps93 numberOf indexAt nameOf at holds
+unfolding point sps93 numberOf indexAt nameOf at holds disc
 returns c =
     let b = c .before .before .before .before .before .before .before .before in
-    let d = b .before .before .before .before .before .before .before in
+    let d = b .before .before .before .before .before .before .before .before .before in
     let l = d .before .before .before .before .before .before .before .args .l .now in
     let p-name = d .before .before .before .before .before .before .name .ensures in
-    let p-number = b .before .before .before .before .before .before .number-at .ensures in
-    let p-index = b .before .before .before .before .before .index-at .ensures in
-    let p-code = b .before .before .before .before .pack .ensures in
+    let p-number = b .before .before .before .before .before .before .before .before .number-at .ensures in
+    let p-index = b .before .before .before .before .before .before .before .index-at .ensures in
+    let p-code = b .before .before .before .before .before .before .pack .ensures in
+    let p-state = (b .before .before .before .before .state-in .ensures
+    ∙ ap (λ (how : Reading). codedState (stateOf (at (ranked (mediumOf how .charOf) l) (sps93 .code))))
+    (b .before .before .before .before .before .disc .ensures)
+    ∙ ap (λ (m : List ℕ). codedState (stateOf (at m (sps93 .code)))) (ranked-own l)) in
     let p-fixed = (d .before .before .before .before .held-at .ensures ∙ ap (λ (n : Number). heldOf (blank (cols l 29 32)) (value n))
     (d .before .before .before .before .before .signed .ensures) ∙ held-is (blank (cols l 29 32)) (value (signed (cols l 29 32)))) in
     let p-depth = (toZ-ofZ w64 (b .before .before .value .result) (record { sfits = b .before .before .value .ok })
@@ -119,6 +136,7 @@ returns c =
       number = p-number i;
       index = p-index i;
       code = p-code i;
+      state = p-state i;
       fixed = p-fixed i;
       depth = p-depth i;
       datum = p-datum i;
@@ -145,6 +163,8 @@ point-of-spec =
     number-at-requires
     index-at-requires
     pack-requires
+    disc-requires
+    state-in-requires
     decimal-requires
     value-requires
     signed-requires-2

@@ -4,7 +4,7 @@ use borrow.Author.Needs.{needs}
 use Rattle.rules.specs.Check.{points}
 use Rattle.lines.specs.Reading.{sheetOf}
 use Rattle.keys.proofs.Lines.{takes-point}
-use Rattle.sets.proofs.Alike.{count-alike}
+use Rattle.rules.proofs.Dead.{count-alike}
 use Rattle.sets.proofs.counts.points.Statement.{statement}
 use Rattle.sets.proofs.counts.points.Tie as tie
 

@@ -4,7 +4,7 @@ use borrow.Author.Needs.{needs}
 use Rattle.rules.specs.Check.{relations}
 use Rattle.lines.specs.Reading.{sheetOf}
 use Rattle.keys.proofs.Lines.{takes-record}
-use Rattle.sets.proofs.Alike.{count-alike}
+use Rattle.rules.proofs.Dead.{count-alike}
 use Rattle.sets.proofs.counts.relations.Statement.{statement}
 use Rattle.sets.proofs.counts.relations.Tie as tie
 

@@ -1,0 +1,7 @@
+pub mod Counting
+pub mod Running
+pub mod Step
+pub mod Accepted
+pub mod Killed
+pub mod Line
+pub mod One

@@ -1,0 +1,118 @@
+-- The rows that the requests on codes and killed points add to the table, on set A and its changes.
+use Prim.Native.Nat.{ℕ}
+use Prim.Native.String.{String}
+use mathlib.Core.Path.{_≡_, refl}
+use mathlib.Core.Bool.{true, false}
+use mathlib.Core.List.{List, [], _∷_, _++_}
+use Rattle.rules.specs.Places
+use Rattle.rules.specs.Plan
+use Rattle.rules.specs.Text
+use Rattle.rules.specs.Numbers
+use Rattle.rules.specs.Kinds
+use Rattle.rules.specs.Layout
+use Rattle.rules.specs.Sheet
+use Rattle.rules.specs.Medium
+use Rattle.rules.specs.Disc
+use Rattle.rules.specs.Tape
+use Rattle.rules.specs.Names
+use Rattle.rules.specs.Lines
+use Rattle.rules.specs.Points
+use Rattle.rules.specs.Relations
+use Rattle.rules.specs.Cover
+use Rattle.rules.specs.Rows
+use Rattle.rules.specs.Form
+use Rattle.rules.specs.Headers
+use Rattle.rules.specs.Codes
+use Rattle.rules.specs.Reaches
+use Rattle.rules.specs.Order
+use Rattle.rules.specs.Check
+use Rattle.rules.specs.Questions
+use Rattle.rules.specs.Lookup
+use Rattle.rules.specs.Tables
+use Rattle.rules.specs.Spread
+use Rattle.rules.specs.Hosts
+use Rattle.rules.specs.Text.{bytes}
+use Rattle.rules.specs.Disc.{file}
+use Rattle.rules.specs.Plan.{№, fileR, fileS, fileX}
+use Rattle.rules.specs.Check.{Answer, accepted, refusal, trace, channel, headerLine, check}
+use Rattle.rules.specs.Lookup.{lookup, wayBack}
+use Rattle.rules.specs.Tables.{tableLine}
+use Rattle.rules.specs.SetA.{types, codeHeader, headers, put, pointLine, xOf, rA, sA, xA, relationLine}
+
+abbrev checkA : List ℕ → List ℕ → List ℕ → Answer
+checkA r s x = check (file r) (file s) (file x)
+
+abbrev xThree : List ℕ
+xThree = xOf (relationLine "     501" "   1   93" "L1" "     101     103")
+
+-- one receiver, shot and relation line with those codes and instrument, under the tables of 1 and V1 and some more
+abbrev coded : String → String → String → List ℕ → Answer
+coded g v i more =
+    let h = types ++ (codeHeader 400 "1," ++ (codeHeader 700 "V1" ++ more)) in
+    checkA (h ++ pointLine "R" "L1" "     101" g) (h ++ pointLine "S" "L1" "     501" v)
+    (h ++ put 13 (bytes i) (relationLine "     501" "   1   11" "L1" "     101     101"))
+
+-- set A with receiver 102 killed
+abbrev rKilled : List ℕ
+rKilled = headers ++ (pointLine "R" "L1" "     101" "G1" ++ (pointLine "R" "L1" "     102" "KL" ++ pointLine "R" "L1" "     103" "G1"))
+
+abbrev lookupK : ℕ → Answer
+lookupK c = lookup (file rKilled) (file sA) (file xThree) (bytes "100   ") 11 c
+
+pub table :
+    coded "G2" "V1" "1" (codeHeader 600 "G1")
+    ∷ coded "G1" "V2" "1" (codeHeader 600 "G1")
+    ∷ coded "G1" "V1" "2" (codeHeader 600 "G1")
+    ∷ coded "G1" "V1" "1" (codeHeader 600 "G1" ++ codeHeader 610 "G1")
+    ∷ coded "G1" "V1" "2" (codeHeader 610 "G1" ++ codeHeader 560 "2,")
+    ∷ coded "G1" "V1" "1" (codeHeader 601 "G1")
+    ∷ coded "KL" "V1" " " (codeHeader 700 "G1")
+    ∷ tableLine (file rA) (file sA) (file xA) 82 (bytes "G1")
+    ∷ tableLine (file rA) (file sA) (file xA) 88 (bytes "2")
+    ∷ tableLine (file rA) (file sA) (file xA) 83 (bytes "KL")
+    ∷ checkA rKilled sA xThree
+    ∷ lookupK 6
+    ∷ lookupK 7
+    ∷ wayBack (file rKilled) (file sA) (file xThree) (bytes "100   ") 11 26 3
+    ∷ checkA rA (headers ++ pointLine "S" "L1" "     501" "KL") xA
+    ∷ checkA rA (sA ++ pointLine "S" "L1" "     502" "KL") xA ∷ []
+    ≡ refusal (№ 25 fileR 25 27)
+    ∷ refusal (№ 25 fileS 25 27)
+    ∷ refusal (№ 25 fileX 25 13)
+    ∷ refusal (№ 24 fileR 25 33)
+    ∷ accepted 1 1 1 1 0
+    ∷ refusal (№ 25 fileR 25 27)
+    ∷ accepted 1 1 1 1 1
+    ∷ headerLine 23
+    ∷ headerLine 0
+    ∷ refusal (№ 20 0 0 0)
+    ∷ accepted 3 1 1 9 3
+    ∷ trace 26 3 true
+    ∷ trace 27 1 false
+    ∷ channel 6
+    ∷ refusal (№ 13 fileX 25 14)
+    ∷ accepted 3 2 1 3 0 ∷ []
+unfolding Places.pick Places.every Places.some Places.least Places.count Places.sum Places.greatest Places.ifBefore Places.isBefore Places.ofLast
+    Plan._orElse_ Plan.firstOf Plan.run Text.col Text.front Text.cols Text.same Text.less Text.blank Text.bytes Text.oneOf Numbers.digit
+    Numbers.digitsAfter Numbers.digits Numbers.whole Numbers.justified Numbers.negative Numbers.minusOr Numbers.signed Numbers.then Numbers.pointed
+    Numbers.decimal Numbers.tenths Numbers.size Numbers.value Kinds.formed Kinds.between Kinds.within Kinds.allDigits Kinds.digit1 Kinds.indexOf
+    Kinds.family Kinds.isCode Kinds.water Kinds.isTime Kinds.fits Layout.sps93 Layout.at Sheet.mostLines Disc.printable Disc.byteFits Form.strayFrom
+    Form.stray Form.ending Form.rule29 Medium.sheet Disc.disc Tape.page Tape.charIn Tape.placeOf Tape.byteIn Tape.tape Names.sameName Names.ranked
+    Names.lessName Lines.letter Lines.isHeader Lines.isMarker Lines.isData Lines.isPoint Lines.heads Points.holds Points.nameOf Points.numberOf
+    Points.indexAt Points.stateOf Points.point Points.pointAt Points.isAt Points.samePoint Points.isKilled Relations.reach Relations.relation
+    Relations.reachAt Relations.relationAt
+    Cover.traces Cover.carries Cover.receivers Cover.receiverOn Cover.onTo Cover.covers Cover.leads Cover.component Cover.channelOf Cover.meet
+    Rows.headerRows Rows.pointRows Rows.relationRows Form.rule1 Form.rule2 Form.rule3 Form.rule4 Form.fieldsFit Form.rule5 Form.rule6 Form.lineFits
+    Form.form Headers.twoDigits Headers.isType Headers.rule7 Headers.cut Headers.freedBefore Headers.freedAfter Headers.projection Headers.rule8
+    Headers.sameColumns Headers.rule9 Codes.tablesOf Codes.threeDigits Codes.opens Codes.names Codes.named Codes.lineNaming Codes.namedBefore
+    Codes.rule24 Codes.usedCode Codes.rule25 Codes.codesFit Tables.kindOf Tables.written Tables.codeAsked Tables.tableLine
+    Reaches.reachesOf Reaches.ofRecord Reaches.mates Reaches.together Reaches.rises Reaches.once Reaches.search
+    Order.above Order.earlier Order.rule10 Order.rule11 Order.rule12 Order.isPointAt Order.isLive Order.isShotOf Order.lineOfPoint Order.shotLine
+    Order.receiverLine Order.rule13
+    Order.rule14 Order.names Order.rule15 Order.sameShot Order.rule16 Order.rule17 Order.receiversThere Order.rule18 Order.rule19 Check.relationFits
+    Check.rules Check.verdict Check.points Check.relations Check.allTraces Check.leadsToKilled Check.deadOf Check.deadTraces Check.answer Check.check
+    Questions.recordAsked Questions.channelAsked
+    Questions.lineAsked Questions.componentAsked Questions.rule20 Lookup.found Lookup.lookup Lookup.reaches Lookup.foundBack Lookup.wayBack
+    Spread.highestOf Spread.lineOf Spread.componentOf Spread.turns Spread.rule21 Spread.spreadVerdict Spread.spread Spread.unlessRefused Spread.slice
+    Hosts.packed Hosts.hostNumber Hosts.numbersOf
+table = refl

@@ -1,0 +1,15 @@
+-- `sps::mark` meets its contract. Assumes nothing.
+use Rattle.rules.specs.Places.{pick}
+use Rattle.sps.proofs.mark.Statement.{statement}
+use Rattle.sps.proofs.mark.Tie as tie
+
+returns : tie.Need-returns
+unfolding pick
+returns c = rw (c .if1 .taken)
+
+returns-2 : tie.Need-returns-2
+unfolding pick
+returns-2 c = rw (c .if1 .left)
+
+pub mark-spec : {M : Type 1} → statement M
+mark-spec = tie.close (tie.spec returns returns-2)
