@@ -1,5 +1,5 @@
 // The sets of the folders that two files list, `names` those of disc files and `tapes` those of tapes, a name to a line: for each its
-// name, a blank and the line of its verdict. Every refusal number of the set check has a folder; for 2, which takes 10,000 lines, the buffer
+// name, a blank and the line of its verdict. Every refusal number of the cross-check has a folder; for 2, which takes 10,000 lines, the buffer
 // of R has room for them and a line more.
 ghost use mathlib.Core.Path.{_≡_};
 ghost use Prim.Native.Nat.{_≤_};
@@ -43,7 +43,7 @@ fn said(how: Reading, r: &[u8], s: &[u8], x: &[u8], a: &mut [u8], b: &mut [u8], 
     let i = files::size(files::load(r, a).input());
     let j = files::size(files::load(s, b).input());
     let k = files::size(files::load(x, c).input());
-    let v = sets::check(how, &a[..i], &b[..j], &c[..k]);
+    let v = sets::cross(how, &a[..i], &b[..j], &c[..k]);
     let mut line = [0u8; 120];
     let n = words::verdict(v, &mut line);
     io::write_all(STDOUT_FILENO, &line[..n]);

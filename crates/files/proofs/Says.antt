@@ -8,11 +8,9 @@ use lib.ListN.{length}
 use borrow.Author.Tests.{le-leb}
 use Rattle.rules.specs.Places.{pick}
 use Rattle.rules.specs.Disc.{file}
-use Rattle.rules.specs.Check.{check}
-use Rattle.lines.specs.Reading.{onDisc, sheetOf}
-use Rattle.lines.specs.declared.Reading.{Reading}
+use Rattle.rules.specs.Check.{cross}
 use Rattle.sets.specs.declared.Answer.{Answer}
-use Rattle.sets.specs.Paper.{paper, checkOn}
+use Rattle.sets.specs.Paper.{paper}
 use Rattle.words.specs.Words.{line}
 use Rattle.words.specs.Buffer.{over}
 use Rattle.files.specs.Report.{_orElse_}
@@ -39,10 +37,6 @@ unfolding _orElse_
 says-next [] {g} {o} e z s = record { value = s .value; written = s .written ∙ ap (over g) (e .written ∙ over-none o) }
 says-next (b ∷ f) e z s = absurd (omega (arith, e .value))
 
-pub says-verdict : (how : Reading) → how ≡ onDisc
-    → (v : Answer) (p q t p′ q′ t′ o o′ : List ℕ) (n : ℕ) → paper v ≡ checkOn how p q t → p ≡ p′ → q ≡ q′ → t ≡ t′
-    → Says (line (paper v)) o o′ n → Says (line (check (file p′) (file q′) (file t′))) o o′ n
-unfolding sheetOf
-says-verdict how h v p q t p′ q′ t′ o o′ n e a b d s =
-    let f : paper v ≡ check (file p) (file q) (file t) = e ∙ ap (λ (w : Reading). checkOn w p q t) h in
-    rw (← a, ← b, ← d, ← f) s
+pub says-verdict : (v : Answer) (p q t p′ q′ t′ o o′ : List ℕ) (n : ℕ) → paper v ≡ cross (file p) (file q) (file t) → p ≡ p′ → q ≡ q′ → t ≡ t′
+    → Says (line (paper v)) o o′ n → Says (line (cross (file p′) (file q′) (file t′))) o o′ n
+says-verdict v p q t p′ q′ t′ o o′ n e a b d s = rw (← a, ← b, ← d, ← e) s

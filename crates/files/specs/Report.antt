@@ -9,7 +9,7 @@ use mathlib.Core.List.{List, [], _∷_}
 use lib.ListN.{take}
 use Rattle.rules.specs.Plan.{fileR, fileS, fileX}
 use Rattle.rules.specs.Disc.{file}
-use Rattle.rules.specs.Check.{check}
+use Rattle.rules.specs.Check.{cross}
 use Rattle.words.specs.Words.{line, noFile, tooLong}
 use Rattle.files.specs.declared.input.Input.{Input}
 use Rattle.files.specs.declared.input.Input.the-variants.{Missing, Longer, Bytes}
@@ -32,7 +32,7 @@ unfoldable pub _orElse_ : List ℕ → List ℕ → List ℕ
 unfoldable pub report : Input → List ℕ → Input → List ℕ → Input → List ℕ → List ℕ
 report i r j s k x =
     fault fileR i orElse fault fileS j orElse fault fileX k
-    orElse line (check (file (part i r)) (file (part j s)) (file (part k x)))
+    orElse line (cross (file (part i r)) (file (part j s)) (file (part k x)))
 
 abbrev pub told : Said → List ℕ → List ℕ → List ℕ → List ℕ
 told t r s x = report (t .r .input) r (t .s .input) s (t .x .input) x

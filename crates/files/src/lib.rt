@@ -4,9 +4,15 @@
 ghost use mathlib.Core.Path.{_≡_};
 ghost use Prim.Native.Nat.{_≤_};
 ghost use lib.ListN.{length, take};
+ghost use Rattle.rules.specs.Disc.{file};
+ghost use Rattle.rules.specs.Check.{cross as crossOf};
+ghost use Rattle.sets.specs.Paper.{paper};
 ghost use Rattle.words.specs.Buffer.{over};
 ghost use Rattle.files.specs.Reads.{Found};
 ghost use Rattle.files.specs.Report.{part as partOf, fault as faultOf, report as reportOf, told};
+
+use lines::Verdict;
+use sets::Answer;
 
 mod input;
 
@@ -63,6 +69,26 @@ fn fault(n: u8, i: Input, out: &mut [u8]) -> usize
     }
 }
 
+// The verdict on three files: the form of each, then the cross-check.
+fn judged(r: &[u8], s: &[u8], x: &[u8]) -> Answer
+    ensures answer { λ a. ⌜ paper a ≡ crossOf (file (now (r .entry))) (file (now (s .entry))) (file (now (x .entry))) ⌝ }
+{
+    let how = lines::disc();
+    let u = form::form(how, b'R' as u64, r);
+    if let Verdict::Refused(n, i, l, c) = u {
+        return Answer::Refused(n, i, l, c);
+    }
+    let v = form::form(how, b'S' as u64, s);
+    if let Verdict::Refused(n, i, l, c) = v {
+        return Answer::Refused(n, i, l, c);
+    }
+    let w = form::form(how, b'X' as u64, x);
+    if let Verdict::Refused(n, i, l, c) = w {
+        return Answer::Refused(n, i, l, c);
+    }
+    sets::cross(how, r, s, x)
+}
+
 // The line of three files, in the first places of out where it has room; answers its length.
 pub fn report(i: Input, r: &[u8], j: Input, s: &[u8], k: Input, x: &[u8], out: &mut [u8]) -> usize
     ensures value { λ n. ⌜ n ≡ length (reportOf i (now (r .entry)) j (now (s .entry)) k (now (x .entry))) ⌝ }
@@ -81,10 +107,7 @@ pub fn report(i: Input, r: &[u8], j: Input, s: &[u8], k: Input, x: &[u8], out: &
     if c != 0 {
         return c;
     }
-    words::verdict(
-        sets::check(lines::disc(), part(i, r), part(j, s), part(k, x)),
-        out,
-    )
+    words::verdict(judged(part(i, r), part(j, s), part(k, x)), out)
 }
 
 // Reads the files at three paths into lent buffers and says what they are.

@@ -1,4 +1,4 @@
-// The form of one file: the first breach of 1 to 6, in the paper's order. 1, 2, then line by line 3 (whole line), 4, 5, 6.
+// The form of one file: the first breach of 1 to 6, in the paper's order. 1, 2, on tape 29, then line by line 3 (whole line), 4, 5, 6.
 ghost use mathlib.Core.Path.{_≡_};
 ghost use mathlib.Core.Bool.{_&&_};
 ghost use Prim.Native.Nat.{ℕ, _+_, _≤_, _<_};
@@ -9,6 +9,7 @@ ghost use Rattle.rules.specs.Lines.{isHeader};
 ghost use Rattle.rules.specs.Form.{lineFits, form as formOf};
 ghost use Rattle.lines.specs.Paper.{paper};
 ghost use Rattle.lines.specs.Reading.{sheetOf};
+ghost use Rattle.form.specs.Paper.{answered, formOn};
 ghost use Rattle.form.specs.Steps.{headersTo, letterFits, numbersOf, fieldsOf};
 use lines::Reading;
 use lines::Verdict;
@@ -105,7 +106,7 @@ fn lines_fit(how: Reading, f: &[u8], i: u8) -> Verdict
 }
 
 // The form of file i (R 1, S 2, X 3).
-pub fn form(how: Reading, f: &[u8], i: u8) -> Verdict
+pub fn file_fits(how: Reading, f: &[u8], i: u8) -> Verdict
     ensures verdict { λ v. ⌜ paper v ≡ run (formOf i (sheetOf how (now (f .entry)))) ⌝ }
 {
     let v = lines::length_fits(how, f, i);
@@ -113,4 +114,15 @@ pub fn form(how: Reading, f: &[u8], i: u8) -> Verdict
         return v;
     }
     lines_fit(how, f, i)
+}
+
+// The form check of one file. Its kind is the letter R, S or X; any other number is 20, before the rest.
+pub fn form(how: Reading, kind: u64, f: &[u8]) -> Verdict
+    ensures answer { λ v. ⌜ answered v ≡ formOn how kind (now (f .entry)) ⌝ }
+{
+    let i = lines::kind_of(kind);
+    if i == 0 {
+        return Verdict::Refused(20, 0, 0, 0);
+    }
+    file_fits(how, f, i)
 }

@@ -15,7 +15,6 @@ use Rattle.rules.specs.Tape.{tape}
 use Rattle.rules.specs.Disc.{disc}
 use Rattle.rules.specs.Calls.{on, none, choice}
 use Rattle.rules.specs.Plan.{Verdict, fine, refused, №, run, _before_, fileR, fileS}
-use Rattle.rules.specs.Lines.{letter}
 use Rattle.rules.specs.Sheet.{Sheet, mostLines, allLines}
 use Rattle.rules.specs.Form.{strayFrom, ending, rule1, rule2, rule29}
 use Rattle.rules.proofs.Tests.{more}
@@ -36,19 +35,6 @@ chosen-tape n e = rw e
 pub chosen-none : (n : ℕ) → (n ≡ 1 → ⊥) → (n ≡ 2 → ⊥) → none ≡ choice n
 unfolding choice pick
 chosen-none n p q = rw (ne-eqb _ _ p, ne-eqb _ _ q)
-
--- the letter of a file
-pub letter-r : (i : ℕ) → i ≡ fileR → 82 ≡ letter i
-unfolding letter pick
-letter-r i e = rw e
-
-pub letter-s : (i : ℕ) → i ≡ fileS → 83 ≡ letter i
-unfolding letter pick
-letter-s i e = rw e
-
-pub letter-x : (i : ℕ) → (i ≡ fileR → ⊥) → (i ≡ fileS → ⊥) → 88 ≡ letter i
-unfolding letter pick
-letter-x i n m = rw (ne-eqb _ _ n, ne-eqb _ _ m)
 
 -- the first c columns of l are those of f from a on
 abbrev pub Copied : List ℕ → List ℕ → ℕ → ℕ → Type 0

@@ -20,8 +20,10 @@ use Rattle.lines.proofs.chosen as chosen
 use Rattle.lines.proofs.chosen.Reads as chosen-reads
 use Rattle.lines.proofs.is_letter as is-letter
 use Rattle.lines.proofs.is_letter.Reads as is-letter-reads
-use Rattle.lines.proofs.letter as letter
-use Rattle.lines.proofs.letter.Reads as letter-reads
+use Rattle.lines.proofs.letters.letter as letter
+use Rattle.lines.proofs.letters.letter.Reads as letter-reads
+use Rattle.lines.proofs.letters.kind_of as kind-of
+use Rattle.lines.proofs.letters.kind_of.Reads as kind-of-reads
 use Rattle.lines.proofs.line_count as line-count
 use Rattle.lines.proofs.line_count.Reads as line-count-reads
 use Rattle.lines.proofs.length_fits as length-fits
@@ -89,6 +91,9 @@ is-letter-one κs a v v′ w w′ = alike
 
 pub letter-one : One letter.ended letter-reads.Post
 letter-one κs a v v′ w w′ = alike
+
+pub kind-of-one : One kind-of.ended kind-of-reads.Post
+kind-of-one κs a v v′ w w′ = alike
 
 pub line-count-one : One line-count.ended line-count-reads.Post
 line-count-one κs a v v′ w w′ = alike

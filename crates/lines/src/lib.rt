@@ -13,15 +13,18 @@ ghost use Rattle.rules.specs.Sheet.{mostLines, allLines};
 ghost use Rattle.rules.specs.Tape.{tape};
 ghost use Rattle.rules.specs.Calls.{choice as choiceOf};
 ghost use Rattle.rules.specs.MeetsDisc.{Proper};
-ghost use Rattle.rules.specs.Lines.{letter as letterOf};
 ghost use Rattle.rules.specs.Form.{stray as strayOf, ending as endingOf, rule1, rule2, rule29};
 ghost use Rattle.rules.specs.Show.{shown as columnsOf, start, ofS, show as showOf, startIn};
 ghost use Rattle.lines.specs.Paper.{paper, into};
 ghost use Rattle.lines.specs.Reading.{onDisc, mediumOf, chosenBy, sheetOf, columnsAt, Printed};
 
 mod eof;
+mod letters;
 mod page;
 mod proper;
+
+pub use letters::kind_of;
+pub use letters::letter;
 
 // At most so many lines a file.
 pub const MOST_LINES: usize = 9999;
@@ -93,19 +96,6 @@ fn closing(how: Reading) -> usize
         Medium::Disc => 0,
         Medium::Tape => 1,
     }
-}
-
-// The letter of file i: R 1, S 2, X any other.
-pub fn letter(i: u8) -> u8
-    ensures value { λ b. ⌜ b ≡ letterOf i ⌝ }
-{
-    if i == 1 {
-        return b'R';
-    }
-    if i == 2 {
-        return b'S';
-    }
-    b'X'
 }
 
 // Refusal n of file i, at column c of line k, from 0.

@@ -77,7 +77,7 @@ pub extern "C" fn probe_line(line: &[u8; 80], i: u8) -> u64
 pub extern "C" fn probe_form(f: &[u8], i: u8) -> u64
     ensures verdict { λ n. ⌜ n ≡ toldOf (run (formOf i (file (now (f .entry))))) ⌝ }
 {
-    told(form::form(lines::disc(), f, i))
+    told(form::file_fits(lines::disc(), f, i))
 }
 
 // The values of a point line.

@@ -1,6 +1,6 @@
 -- The counts on acceptance are those of the set: of its receivers, shots and relation lines, the sum of T - F + 1 over these, and the traces whose
 -- receiver is killed.
---   accepted-is   = the check accepts with five numbers exactly when Meets holds and they are those
+--   accepted-is   = the cross-check accepts with five numbers exactly when Meets holds and they are those
 use Prim.Native.Nat.{ℕ}
 use native.Mathlib.Omega.{arith}
 use mathlib.Core.Path.{_≡_}
@@ -9,7 +9,7 @@ use Rattle.rules.specs.Sheet.{Sheet}
 use Rattle.rules.specs.Lines.{isData, isPoint}
 use Rattle.rules.specs.Relations.{reachAt}
 use Rattle.rules.specs.Cover.{traces}
-use Rattle.rules.specs.Check.{accepted, verdict, points, relations, allTraces, deadTraces, check}
+use Rattle.rules.specs.Check.{accepted, verdict, points, relations, allTraces, deadTraces, cross}
 use Rattle.rules.specs.MeetsForm.{Data, Point}
 use Rattle.rules.specs.Meets.{Meets, Totals}
 use Rattle.rules.proofs.Form.{data-is, point-is}
@@ -21,8 +21,8 @@ use Rattle.rules.proofs.Dead.{dead-is}
 accepted-answered : (a b c d e : ℕ) → Answered (accepted a b c d e)
 accepted-answered a b c d e w p = let z : _≡_ {A = ℕ} 0 1 = cc in omega arith
 
-pub accepted-is : (r s x : Sheet) (a b c d e : ℕ) → (check r s x ≡ accepted a b c d e) ↔ (Meets r s x × Totals r s x a b c d e)
-unfolding check points relations allTraces deadTraces
+pub accepted-is : (r s x : Sheet) (a b c d e : ℕ) → (cross r s x ≡ accepted a b c d e) ↔ (Meets r s x × Totals r s x a b c d e)
+unfolding cross points relations allTraces deadTraces
 accepted-is r s x a b c d e =
     let w = answered (verdict r s x) (accepted (points r) (points s) (relations x) (allTraces x) (deadTraces r x)) _ (accepted-answered a b c d e) in
     let m = verdict-meets r s x in

@@ -2,12 +2,12 @@
 --   Sized a        = the parts of an answer are within what the paper names
 --   tells          = the number is from 2^40 on exactly where the answer is a refusal
 --   refusal-parts, trace-parts = the parts of a refusal and of a trace, from the number
---   check-sized, lookup-sized, back-sized, spread-sized = what the calls answer of disc files is so
+--   file-sized, cross-sized, lookup-sized, back-sized, spread-sized, table-sized = what the calls answer is so, on every medium
 use Prim.Native.Nat.{ℕ, zero, suc, _*_, _/_, _%_, _^_, _≤_, _<_}
 use native.Mathlib.Nat.{lt-suc-self}
 use native.Mathlib.Omega.{arith}
 use mathlib.Core.Path.{_≡_, refl, sym, subst}
-use mathlib.Core.Logic.{_↔_, ⊎-elim}
+use mathlib.Core.Logic.{_↔_, inl, inr, ⊎-elim}
 use mathlib.Core.Bool.{Bool, true, false}
 use mathlib.Core.List.{List}
 use Rattle.rules.specs.Places.{pick, sum}
@@ -18,8 +18,9 @@ use Rattle.rules.specs.Medium.{Medium, sheet}
 use Rattle.rules.specs.Lines.{isData}
 use Rattle.rules.specs.Relations.{reachAt}
 use Rattle.rules.specs.Cover.{traces}
-use Rattle.rules.specs.Check.{Answer, accepted, refusal, trace, channel, highest, headerLine, noTrace, allTraces, rules, verdict, answer, check}
+use Rattle.rules.specs.Check.{Answer, accepted, refusal, trace, channel, highest, headerLine, noTrace, formed, allTraces, rules, verdict, answer, cross}
 use Rattle.rules.specs.Questions.{rule20}
+use Rattle.rules.specs.OneFile.{oneFile, kindAsked, fileForm}
 use Rattle.rules.specs.Lookup.{lookup, wayBack}
 use Rattle.rules.specs.Tables.{tableLine}
 use Rattle.rules.specs.Spread.{rule21, spreadVerdict, spread}
@@ -32,9 +33,10 @@ use Rattle.rules.proofs.Accepted.{sound}
 use Rattle.rules.proofs.Traces.{found-view, back-view, traced-range, back-range}
 use Rattle.rules.proofs.Demand3.{asked-then}
 use Rattle.rules.proofs.Spreads.{few}
+use Rattle.rules.proofs.OneFile.{letter-kind}
 use Rattle.rules.proofs.Tables.{naming-few}
 use Rattle.rules.proofs.Medium.{Lawful}
-use Rattle.rules.proofs.Listed.{Only, run-only, rules-listed, asked-listed, room-listed}
+use Rattle.rules.proofs.Listed.{Only, run-only, kind-listed, rules-listed, asked-listed, room-listed}
 use Rattle.rules.proofs.ListedSizes.{listed-within}
 
 abbrev pub Sized : Answer → Type 0
@@ -45,6 +47,7 @@ Sized (channel c) = (1 ≤ c) × (c ≤ 9999)
 Sized (highest c) = c ≤ 9999
 Sized (headerLine l) = l ≤ 9999
 Sized noTrace = Unit {0}
+Sized formed = Unit {0}
 
 pub refusal-parts : (n f l c : ℕ) → Listed (№ n f l c)
     → (packed (№ n f l c) / 2 ^ 40 ≡ n)
@@ -89,6 +92,7 @@ tells (channel c) z = let p = z .1 in below (channel c) (omega arith) (λ w e. l
 tells (highest c) z = below (highest c) (omega arith) (λ w e. let y : _≡_ {A = ℕ} 0 1 = cc in omega arith)
 tells (headerLine l) z = below (headerLine l) (omega arith) (λ w e. let y : _≡_ {A = ℕ} 0 1 = cc in omega arith)
 tells noTrace z = below noTrace (omega arith) (λ w e. let y : _≡_ {A = ℕ} 0 1 = cc in omega arith)
+tells formed z = below formed (omega arith) (λ w e. let y : _≡_ {A = ℕ} 0 1 = cc in omega arith)
 
 -- a plan, and what is answered where it refuses nothing
 answer-sized : (p : Plan) (a : Answer) → Only Listed p → (run p ≡ fine → Sized a) → Sized (answer (run p) a)
@@ -117,6 +121,14 @@ module _ (M : Medium) (g : Lawful M) where
   abbrev file : List ℕ → Sheet
   file = sheet M sps93
 
+  pub file-sized : (b : ℕ) (f : List ℕ) → Sized (fileForm b (file f))
+  unfolding fileForm oneFile kindAsked rule20
+  file-sized b f =
+      answer-sized (oneFile b (file f)) formed
+      ((λ _. asked-listed), λ m. ⊎-elim (λ v. kind-listed M g f _ (inl (v .1)))
+      (λ u. ⊎-elim (λ v. kind-listed M g f _ (inr (inl (v .1)))) (λ v. kind-listed M g f _ (inr (inr (v .1)))) u) (letter-kind b .0 m))
+      (λ _. tt)
+
   module _ (r s x : List ℕ) where
     traces-few : Meets (file r) (file s) (file x) → allTraces (file x) < 2 ^ 40
     unfolding allTraces traces mostLines sheet sps93
@@ -137,9 +149,9 @@ module _ (M : Medium) (g : Lawful M) where
     unfolding verdict
     met e = verdict-meets (file r) (file s) (file x) .0 e
 
-    pub check-sized : Sized (check (file r) (file s) (file x))
-    unfolding check verdict
-    check-sized = answer-sized (rules (file r) (file s) (file x)) _ (rules-listed M g r s x) (λ e. traces-few (met e))
+    pub cross-sized : Sized (cross (file r) (file s) (file x))
+    unfolding cross verdict
+    cross-sized = answer-sized (rules (file r) (file s) (file x)) _ (rules-listed M g r s x) (λ e. traces-few (met e))
 
     -- a question: 20, then the set's own
     question-sized : (b : Bool) (a : Answer) → (Meets (file r) (file s) (file x) → Sized a)

@@ -32,6 +32,7 @@ pub mod Dead
 pub mod Counts
 pub mod Turns
 pub mod Spreads
+pub mod OneFile
 pub mod Tables
 pub mod ListedSizes
 pub mod Listed

@@ -1,6 +1,6 @@
 -- Every refusal of a set is from the published list, whatever its medium.
 --   Only P p       = each refusal that the plan can give is such, where what is looked for before it is met
---   rules-listed   = the refusals of the set check are listed
+--   rules-listed   = the refusals of the cross-check are listed
 use Prim.Native.Nat.{ℕ, zero, suc, _+_, _*_, _≤_, _<_, min}
 use native.Mathlib.Omega.{arith}
 use mathlib.Core.Path.{_≡_, refl, sym, ap, _∙_, subst}
@@ -214,6 +214,11 @@ module _ (M : Medium) (g : Lawful M) where
     unfolding published begins headerRows relationRows sps93 oneOfFiles inSpans inSpan
     relations-listed =
         form-listed fileX (entry published 5 .columns) refl (λ l c a b d. listed-at fileX l c 5 refl a b d) refl (λ n. absurd (n refl)) (λ _. refl) f
+
+    pub kind-listed : (i : ℕ) → (i ≡ fileR) ⊎ ((i ≡ fileS) ⊎ (i ≡ fileX)) → Only Listed (form i (file f))
+    kind-listed i (inl e) = points-listed i (inl e)
+    kind-listed i (inr (inl e)) = points-listed i (inr e)
+    kind-listed i (inr (inr e)) = rw e relations-listed
 
   -- the code tables
   codes-listed : (r s x : List ℕ) → file r .count ≤ 9999 → file s .count ≤ 9999 → file x .count ≤ 9999

@@ -36,7 +36,7 @@ use Rattle.rules.specs.Hosts
 use Rattle.rules.specs.Text.{bytes}
 use Rattle.rules.specs.Disc.{file}
 use Rattle.rules.specs.Plan.{№, fileR, fileX}
-use Rattle.rules.specs.Check.{Answer, accepted, refusal, trace, noTrace, check}
+use Rattle.rules.specs.Check.{Answer, accepted, refusal, trace, noTrace, cross}
 use Rattle.rules.specs.Lookup.{lookup}
 use Rattle.rules.specs.Layout.{sps93}
 use Rattle.rules.specs.Points.{point}
@@ -44,8 +44,8 @@ use Rattle.rules.specs.Medium.{sheet}
 use Rattle.rules.specs.Tape.{tape}
 use Rattle.rules.specs.SetA.{headers, put, pointLine, rOf, xOf, rA, sA, xA, lineA, relationLine, eof, tapeOf}
 
-abbrev checkA : List ℕ → List ℕ → List ℕ → Answer
-checkA r s x = check (file r) (file s) (file x)
+abbrev crossA : List ℕ → List ℕ → List ℕ → Answer
+crossA r s x = cross (file r) (file s) (file x)
 
 abbrev lookupA : List ℕ → ℕ → ℕ → Answer
 lookupA x n c = lookup (file rA) (file sA) (file x) (bytes "100   ") n c
@@ -54,8 +54,8 @@ abbrev xThree : List ℕ
 xThree = xOf (relationLine "     501" "   1   93" "L1" "     101     103")
 
 -- the same on tape, with records after the EOF of X
-abbrev checkTape : List ℕ → List ℕ → List ℕ → List ℕ → Answer
-checkTape r s x after = check (sheet tape sps93 (tapeOf r)) (sheet tape sps93 (tapeOf s)) (sheet tape sps93 (tapeOf x ++ after))
+abbrev crossTape : List ℕ → List ℕ → List ℕ → List ℕ → Answer
+crossTape r s x after = cross (sheet tape sps93 (tapeOf r)) (sheet tape sps93 (tapeOf s)) (sheet tape sps93 (tapeOf x ++ after))
 
 -- two names whose order differs between the codes
 abbrev rNames : List ℕ
@@ -72,32 +72,32 @@ lineWith c t = put c (bytes t) (pointLine "R" "L1" "     101" "G1")
 abbrev xDown : List ℕ
 xDown = xOf (relationLine "     501" "   1   31" "L1" "     103     101")
 
-abbrev checkWith : ℕ → String → Answer
-checkWith c t = checkA (headers ++ lineWith c t) sA (xOf (relationLine "     501" "   1   11" "L1" "     101     101"))
+abbrev crossWith : ℕ → String → Answer
+crossWith c t = crossA (headers ++ lineWith c t) sA (xOf (relationLine "     501" "   1   11" "L1" "     101     101"))
 
 pub table :
     lookupA xA 11 2
     ∷ lookupA xA 12 2
-    ∷ checkA rA sA xThree
+    ∷ crossA rA sA xThree
     ∷ lookupA xThree 11 6
-    ∷ checkA rA sA (xOf (relationLine "     501" "   1   41" "L1" "     101     103"))
-    ∷ checkA rA sA (xOf (relationLine "     501" "   1   32" "L1" "     101     103"))
-    ∷ checkA rA sA (xOf (relationLine "     501" "   1   41" "L1" "     101     104"))
-    ∷ checkA (rOf "L1" "     101" "     103" "     102") sA xA
-    ∷ checkA (rOf "1   12" "     101" "     102" "     103") sA
+    ∷ crossA rA sA (xOf (relationLine "     501" "   1   41" "L1" "     101     103"))
+    ∷ crossA rA sA (xOf (relationLine "     501" "   1   32" "L1" "     101     103"))
+    ∷ crossA rA sA (xOf (relationLine "     501" "   1   41" "L1" "     101     104"))
+    ∷ crossA (rOf "L1" "     101" "     103" "     102") sA xA
+    ∷ crossA (rOf "1   12" "     101" "     102" "     103") sA
     (xOf (relationLine "     501" "   1   31" "11  2" "     101     103"))
-    ∷ checkA rA sA (xOf (relationLine "00000501" "   1   31" "L1" "     101     103"))
-    ∷ checkA rA sA (xOf (lineA ++ relationLine "     501" "   3   31" "L1" "     103     103"))
-    ∷ checkA rA sA (xOf (lineA ++ relationLine "     501" "   4   41" "L1" "     103     103"))
-    ∷ checkA rNames sA xNames
-    ∷ checkTape rA sA xA []
-    ∷ checkTape rA sA xA eof
-    ∷ checkTape rNames sA xNames []
-    ∷ checkWith 47 "003262601"
-    ∷ checkWith 33 "1000"
+    ∷ crossA rA sA (xOf (relationLine "00000501" "   1   31" "L1" "     101     103"))
+    ∷ crossA rA sA (xOf (lineA ++ relationLine "     501" "   3   31" "L1" "     103     103"))
+    ∷ crossA rA sA (xOf (lineA ++ relationLine "     501" "   4   41" "L1" "     103     103"))
+    ∷ crossA rNames sA xNames
+    ∷ crossTape rA sA xA []
+    ∷ crossTape rA sA xA eof
+    ∷ crossTape rNames sA xNames []
+    ∷ crossWith 47 "003262601"
+    ∷ crossWith 33 "1000"
     ∷ lookupA xDown 11 1
-    ∷ checkA rA sA (xOf (relationLine "     501" "   1   41" "L1" "     103     101"))
-    ∷ checkA rA sA (xOf (lineA ++ relationLine "     501" "   4   61" "L1" "     103     101")) ∷ []
+    ∷ crossA rA sA (xOf (relationLine "     501" "   1   41" "L1" "     103     101"))
+    ∷ crossA rA sA (xOf (lineA ++ relationLine "     501" "   4   61" "L1" "     103     101")) ∷ []
     ≡ trace 26 1 false
     ∷ noTrace
     ∷ accepted 3 1 1 9 0
@@ -125,19 +125,19 @@ unfolding Places.pick Places.every Places.some Places.least Places.count Places.
     Numbers.decimal Numbers.tenths Numbers.size Numbers.value Kinds.formed Kinds.between Kinds.within Kinds.allDigits Kinds.digit1 Kinds.indexOf
     Kinds.family Kinds.isCode Kinds.water Kinds.isTime Kinds.fits Layout.sps93 Layout.at Sheet.mostLines Disc.printable Disc.byteFits Form.strayFrom
     Form.stray Form.ending Form.rule29 Medium.sheet Disc.disc Tape.page Tape.charIn Tape.placeOf Tape.byteIn Tape.tape Names.sameName Names.ranked
-    Names.lessName Lines.letter Lines.isHeader Lines.isMarker Lines.isData Lines.isPoint Lines.heads Points.holds Points.nameOf Points.numberOf
+    Names.lessName Lines.letter Lines.kindOf Lines.isHeader Lines.isMarker Lines.isData Lines.isPoint Lines.heads Points.holds Points.nameOf Points.numberOf
     Points.indexAt Points.stateOf Points.point Points.pointAt Points.isAt Points.samePoint Points.isKilled Relations.reach Relations.relation
     Relations.reachAt Relations.relationAt
     Cover.traces Cover.carries Cover.receivers Cover.receiverOn Cover.onTo Cover.covers Cover.leads Cover.component Cover.channelOf Cover.meet
     Rows.headerRows Rows.pointRows Rows.relationRows Form.rule1 Form.rule2 Form.rule3 Form.rule4 Form.fieldsFit Form.rule5 Form.rule6 Form.lineFits
     Form.form Headers.twoDigits Headers.isType Headers.rule7 Headers.cut Headers.freedBefore Headers.freedAfter Headers.projection Headers.rule8
     Headers.sameColumns Headers.rule9 Codes.tablesOf Codes.threeDigits Codes.opens Codes.names Codes.named Codes.lineNaming Codes.namedBefore
-    Codes.rule24 Codes.usedCode Codes.rule25 Codes.codesFit Tables.kindOf Tables.written Tables.codeAsked Tables.tableLine
+    Codes.rule24 Codes.usedCode Codes.rule25 Codes.codesFit Tables.written Tables.codeAsked Tables.tableLine
     Reaches.reachesOf Reaches.ofRecord Reaches.mates Reaches.together Reaches.rises Reaches.once Reaches.search
     Order.above Order.earlier Order.rule10 Order.rule11 Order.rule12 Order.isPointAt Order.isLive Order.isShotOf Order.lineOfPoint Order.shotLine
     Order.receiverLine Order.rule13
     Order.rule14 Order.names Order.rule15 Order.sameShot Order.rule16 Order.rule17 Order.receiversThere Order.rule18 Order.rule19 Check.relationFits
-    Check.rules Check.verdict Check.points Check.relations Check.allTraces Check.leadsToKilled Check.deadOf Check.deadTraces Check.answer Check.check
+    Check.rules Check.verdict Check.points Check.relations Check.allTraces Check.leadsToKilled Check.deadOf Check.deadTraces Check.answer Check.cross
     Questions.recordAsked Questions.channelAsked
     Questions.lineAsked Questions.componentAsked Questions.rule20 Lookup.found Lookup.lookup Lookup.reaches Lookup.foundBack Lookup.wayBack
     Spread.highestOf Spread.lineOf Spread.componentOf Spread.turns Spread.rule21 Spread.spreadVerdict Spread.spread Spread.unlessRefused Spread.slice

@@ -14,11 +14,11 @@ use borrow.Author.Tests.{eqb-true, eq-eqb, ltb-true, lt-ltb, le-ltb}
 use Rattle.rules.specs.Places.{pick, least}
 use Rattle.rules.specs.Plan.{Refusal, fileR, fileS, fileX, _before_, run}
 use Rattle.rules.specs.Sheet.{Sheet, allLines, mostLines}
-use Rattle.rules.specs.Lines.{heads}
+use Rattle.rules.specs.Lines.{kindOf, heads}
 use Rattle.rules.specs.Codes.{tablesOf, names, lineNaming}
 use Rattle.rules.specs.Check.{refusal, headerLine, rules, verdict}
 use Rattle.rules.specs.Questions.{rule20}
-use Rattle.rules.specs.Tables.{kindOf, written, codeAsked, tableLine}
+use Rattle.rules.specs.Tables.{written, codeAsked, tableLine}
 use Rattle.rules.specs.MeetsCodes.{CodeOf, NamesCode}
 use Rattle.rules.specs.Meets.{Meets}
 use Rattle.rules.specs.Refuses.{First}
@@ -30,31 +30,8 @@ use Rattle.rules.proofs.Headers.{in-header, heads-few}
 use Rattle.rules.proofs.Codes.{code-of, names-is}
 use Rattle.rules.proofs.Meets.{verdict-meets}
 use Rattle.rules.proofs.Refuses.{rules-same}
+use Rattle.rules.proofs.OneFile.{letter-kind, one-kind}
 use Rattle.rules.proofs.Demand3.{Answered, answered, asked-then, asking-same, refused-is}
-
--- a letter's kind
-letter-kind : (b : ℕ) → (ltb 0 (kindOf b) ≡ true) ↔ KindLetter b (kindOf b)
-unfolding kindOf pick
-letter-kind b = go (eqb b 82) (eqb b 83) (eqb b 88) refl refl refl
-  where
-    kind : Bool → Bool → Bool → ℕ
-    kind r s x = pick r fileR (pick s fileS (pick x fileX 0))
-
-    go : (r s x : Bool) → eqb b 82 ≡ r → eqb b 83 ≡ s → eqb b 88 ≡ x → (ltb 0 (kind r s x) ≡ true) ↔ KindLetter b (kind r s x)
-    go true s x p q w = (λ _. inl (eqb-true b 82 p, refl), λ _. refl)
-    go false true x p q w = (λ _. inr (inl (eqb-true b 83 q, refl)), λ _. refl)
-    go false false true p q w = (λ _. inr (inr (eqb-true b 88 w, refl)), λ _. refl)
-    go false false false p q w = (
-      λ e. absurd (let z = ltb-true 0 0 e in omega arith),
-      λ v. ⊎-elim (λ u. let z : _≡_ {A = ℕ} 0 1 = u .1 in absurd (omega arith))
-          (λ u. ⊎-elim (λ v. let z : _≡_ {A = ℕ} 0 2 = v .1 in absurd (omega arith)) (λ v. let z : _≡_ {A = ℕ} 0 3 = v .1 in absurd (omega arith)) u) v,
-    )
-
-one-kind : (b i : ℕ) → KindLetter b i → kindOf b ≡ i
-unfolding kindOf pick
-one-kind b i (inl v) = rw (eq-eqb b 82 (v .0)) (sym (v .1))
-one-kind b i (inr (inl v)) = let e : b ≡ 83 = v .0 in rw e (sym (v .1))
-one-kind b i (inr (inr v)) = let e : b ≡ 88 = v .0 in rw e (sym (v .1))
 
 pub asked-code : (b : ℕ) (c : List ℕ) → (codeAsked (kindOf b) c ≡ true) ↔ AskedCode b c
 unfolding codeAsked

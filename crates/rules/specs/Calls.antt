@@ -3,7 +3,8 @@
 --   choice n        = what a number chooses
 --   chosen d a      = what a call answers: 20 where no medium is chosen, else what it answers of the chosen one
 --   Chosen d P Q    = P of the chosen medium, Q where none is chosen
---   checkIn, lookupIn, wayBackIn, tableLineIn = the set check, the lookup, the way back and the line that names a code, of three files
+--   formIn          = the form check of one file
+--   crossIn, lookupIn, wayBackIn, tableLineIn = the cross-check, the lookup, the way back and the line that names a code, of three files
 use Prim.Native.Nat.{ℕ}
 use mathlib.Core.List.{List}
 use lib.Dec.{eqb}
@@ -13,7 +14,8 @@ use Rattle.rules.specs.Layout.{sps93}
 use Rattle.rules.specs.Medium.{Medium, sheet}
 use Rattle.rules.specs.Disc.{disc}
 use Rattle.rules.specs.Tape.{tape}
-use Rattle.rules.specs.Check.{Answer, refusal, check}
+use Rattle.rules.specs.Check.{Answer, refusal, cross}
+use Rattle.rules.specs.OneFile.{fileForm}
 use Rattle.rules.specs.Lookup.{lookup, wayBack}
 use Rattle.rules.specs.Tables.{tableLine}
 
@@ -32,8 +34,11 @@ abbrev pub Chosen : Choice → (Medium → Type 0) → Type 0 → Type 0
 Chosen (on M) P Q = P M
 Chosen none P Q = Q
 
-abbrev pub checkIn : Choice → List ℕ → List ℕ → List ℕ → Answer
-checkIn d r s x = chosen d (λ M. check (sheet M sps93 r) (sheet M sps93 s) (sheet M sps93 x))
+abbrev pub formIn : Choice → ℕ → List ℕ → Answer
+formIn d b f = chosen d (λ M. fileForm b (sheet M sps93 f))
+
+abbrev pub crossIn : Choice → List ℕ → List ℕ → List ℕ → Answer
+crossIn d r s x = chosen d (λ M. cross (sheet M sps93 r) (sheet M sps93 s) (sheet M sps93 x))
 
 abbrev pub lookupIn : Choice → List ℕ → List ℕ → List ℕ → List ℕ → ℕ → ℕ → Answer
 lookupIn d r s x t n c = chosen d (λ M. lookup (sheet M sps93 r) (sheet M sps93 s) (sheet M sps93 x) t n c)

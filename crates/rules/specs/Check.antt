@@ -6,7 +6,7 @@
 --   allTraces x      = the sum of T - F + 1
 --   deadOf r q       = how many channels of a relation line lead to a killed receiver
 --   deadTraces r x   = their sum
---   check r s x      = the answer to the set check
+--   cross r s x      = the answer to the cross-check
 use Prim.Native.Nat.{ℕ, _+_}
 use mathlib.Core.Bool.{Bool}
 use Rattle.rules.specs.Places.{pick, count, sum}
@@ -59,7 +59,7 @@ deadOf r q = count (traces q) (λ c. leadsToKilled r q (q .from + c))
 unfoldable pub deadTraces : Sheet → Sheet → ℕ
 deadTraces r x = sum (x .count) (λ k. pick (isData x k) (deadOf r (reachAt x k)) 0)
 
--- what a call answers
+-- what a call answers; `formed`: one file is well formed, "accepted without counts"
 pub data Answer : Type 0 where
   accepted : (receivers shots relations traces dead : ℕ) → Answer
   refusal : Refusal → Answer
@@ -68,10 +68,11 @@ pub data Answer : Type 0 where
   highest : ℕ → Answer
   headerLine : ℕ → Answer
   noTrace : Answer
+  formed : Answer
 
 unfoldable pub answer : Verdict → Answer → Answer
 answer fine a = a
 answer (refused w) a = refusal w
 
-unfoldable pub check : Sheet → Sheet → Sheet → Answer
-check r s x = let a = accepted (points r) (points s) (relations x) (allTraces x) (deadTraces r x) in answer (verdict r s x) a
+unfoldable pub cross : Sheet → Sheet → Sheet → Answer
+cross r s x = let a = accepted (points r) (points s) (relations x) (allTraces x) (deadTraces r x) in answer (verdict r s x) a

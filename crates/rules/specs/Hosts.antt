@@ -1,12 +1,12 @@
 -- "A C host gets one 64-bit number."
 --   packed w       = a refusal as number * 2^40 + file * 2^32 + line * 256 + column
---   hostNumber a   = an answer as that number; 0 where there is none
+--   hostNumber a   = an answer as that number; 0 where there is none, and of a file that is well formed
 --   numbersOf b    = the 16-bit numbers of a byte slice, low byte first; a last odd byte is no place
 use Prim.Native.Nat.{ℕ, _+_, _*_, _^_}
 use mathlib.Core.List.{List, [], _∷_}
 use Rattle.rules.specs.Places.{pick}
 use Rattle.rules.specs.Plan.{Refusal, №}
-use Rattle.rules.specs.Check.{Answer, accepted, refusal, trace, channel, highest, headerLine, noTrace}
+use Rattle.rules.specs.Check.{Answer, accepted, refusal, trace, channel, highest, headerLine, noTrace, formed}
 
 unfoldable pub packed : Refusal → ℕ
 packed (№ n f l c) = n * 2 ^ 40 + f * 2 ^ 32 + l * 256 + c
@@ -19,6 +19,7 @@ hostNumber (channel c) = c
 hostNumber (highest c) = c
 hostNumber (headerLine l) = l
 hostNumber noTrace = 0
+hostNumber formed = 0
 
 unfoldable pub numbersOf : List ℕ → List ℕ
 numbersOf [] = []

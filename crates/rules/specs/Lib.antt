@@ -21,6 +21,7 @@ pub mod Reaches
 pub mod Order
 pub mod Check
 pub mod Questions
+pub mod OneFile
 pub mod Lookup
 pub mod Tables
 pub mod Spread

@@ -10,9 +10,11 @@
 --   Absent x t n              = no relation line is of that tape and record
 --   Highest x t n h           = h is the record's highest covered channel; 0 where the record is absent
 --   Room, Short               = both spread slices, of a and b places, have a place for each channel up to it; one has not
---   KindLetter b i            = the letter of a kind of codes
+--   KindLetter b i            = the letter of a file, and of the kind of codes that it uses
+--   AskedKind b               = a kind
 --   AskedCode b c             = a kind, and a code of it: two bytes, of an instrument one
 --   NamedIn r i c l           = line l of R names the code; l is 0 where none does
+--   fileOrder                 = "20 for a kind that is not R, S or X, before the rest", then the form of one file
 --   lookupOrder, wayBackOrder, spreadOrder, tableOrder = "20 comes before 1 to 19, and 21 after them"
 use Prim.Native.Nat.{ℕ, _+_, _-_, _≤_, _<_}
 use Prim.Native.Char.{code as ascii}
@@ -26,6 +28,7 @@ use Rattle.rules.specs.Layout.{Layout}
 use Rattle.rules.specs.Sheet.{Sheet, mostLines}
 use Rattle.rules.specs.Points.{Point as PointValues, pointAt}
 use Rattle.rules.specs.Relations.{Reach, reachAt}
+use Rattle.rules.specs.Lines.{kindOf}
 use Rattle.rules.specs.Tables.{written}
 use Rattle.rules.specs.MeetsForm.{Data, Point}
 use Rattle.rules.specs.MeetsHeaders.{InHeader}
@@ -33,7 +36,7 @@ use Rattle.rules.specs.MeetsCodes.{CodeOf, NamesCode, Named}
 use Rattle.rules.specs.MeetsDisc.{Printable}
 use Rattle.rules.specs.MeetsCover.{Carries, Reached}
 use Rattle.rules.specs.MeetsSet.{OfRecord}
-use Rattle.rules.specs.Refuses.{Order, look, _then_, by, order}
+use Rattle.rules.specs.Refuses.{Order, look, _then_, by, formOrder, order}
 
 -- 20: "tape not 6 columns of bytes 32-126 starting with a non-blank, record above 9999, channel or R line not 1-9999, component not 1-9"
 abbrev pub Asked : Layout → List ℕ → ℕ → Type 0
@@ -89,9 +92,12 @@ Room x t n a b = (h : ℕ) × Highest x t n h × ((h ≤ a) × (h ≤ b))
 abbrev pub Short : Sheet → List ℕ → ℕ → ℕ → ℕ → Type 0
 Short x t n a b = (h : ℕ) × Highest x t n h × ((a < h) ⊎ (b < h))
 
--- the line that names a code
+-- one file, and the line that names a code
 abbrev pub KindLetter : ℕ → ℕ → Type 0
 KindLetter b i = ((b ≡ ascii "R") × (i ≡ fileR)) ⊎ (((b ≡ ascii "S") × (i ≡ fileS)) ⊎ ((b ≡ ascii "X") × (i ≡ fileX)))
+
+abbrev pub AskedKind : ℕ → Type 0
+AskedKind b = (i : ℕ) × KindLetter b i
 
 abbrev pub AskedCode : ℕ → List ℕ → Type 0
 AskedCode b c = (i : ℕ) × KindLetter b i × ((length (written i c) ≡ 2) × CodeOf i (written i c))
@@ -102,6 +108,9 @@ NamedIn r i c l =
 
 abbrev pub asking : Type 0 → Type 0 → Order → Order
 asking A U o = look A (by U (№ 20 0 0 0)) then o
+
+abbrev pub fileOrder : ℕ → Sheet → Order
+fileOrder b f = asking (AskedKind b) (AskedKind b → ⊥) (formOrder (kindOf b) f)
 
 abbrev pub lookupOrder : Sheet → Sheet → Sheet → List ℕ → ℕ → ℕ → Order
 lookupOrder r s x t n c =

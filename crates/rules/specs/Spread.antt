@@ -19,7 +19,7 @@ use Rattle.rules.specs.Sheet.{Sheet}
 use Rattle.rules.specs.Lines.{isData}
 use Rattle.rules.specs.Relations.{reachAt}
 use Rattle.rules.specs.Reaches.{ofRecord}
-use Rattle.rules.specs.Check.{Answer, accepted, refusal, trace, channel, highest, headerLine, noTrace, rules, answer}
+use Rattle.rules.specs.Check.{Answer, accepted, refusal, trace, channel, highest, headerLine, noTrace, formed, rules, answer}
 use Rattle.rules.specs.Questions.{recordAsked, rule20}
 use Rattle.rules.specs.Lookup.{found}
 
@@ -36,6 +36,7 @@ lineOf (channel c) = 0
 lineOf (highest c) = 0
 lineOf (headerLine l) = 0
 lineOf noTrace = 0
+lineOf formed = 0
 
 unfoldable pub componentOf : Answer → ℕ
 componentOf (trace l m d) = m
@@ -45,6 +46,7 @@ componentOf (channel c) = 0
 componentOf (highest c) = 0
 componentOf (headerLine l) = 0
 componentOf noTrace = 0
+componentOf formed = 0
 
 unfoldable pub turns : (ℕ → List ℕ → List ℕ) → ℕ → List ℕ → List ℕ
 turns put zero d = d

@@ -1,5 +1,4 @@
 -- "Processing asks what G2 was": the header line of R that names a code.
---   kindOf b          = the kind of a letter, R, S or X; 0 of any other
 --   written i c       = a code that is asked for as a table has it: to an instrument's digit comes the comma
 --   codeAsked i c     = a code of that kind: two bytes, of an instrument one
 --   tableLine         = the line that names it, 0 where none does, after 20 and the set's own refusals
@@ -10,14 +9,12 @@ use mathlib.Core.List.{List, [], _∷_, _++_}
 use lib.Dec.{eqb, ltb}
 use lib.ListN.{length}
 use Rattle.rules.specs.Places.{pick}
-use Rattle.rules.specs.Plan.{fileR, fileS, fileX, _before_, run}
+use Rattle.rules.specs.Plan.{fileX, _before_, run}
 use Rattle.rules.specs.Sheet.{Sheet}
+use Rattle.rules.specs.Lines.{kindOf}
 use Rattle.rules.specs.Codes.{tablesOf, lineNaming}
 use Rattle.rules.specs.Check.{Answer, headerLine, rules, answer}
 use Rattle.rules.specs.Questions.{rule20}
-
-unfoldable pub kindOf : ℕ → ℕ
-kindOf b = pick (eqb b (ascii "R")) fileR (pick (eqb b (ascii "S")) fileS (pick (eqb b (ascii "X")) fileX 0))
 
 unfoldable pub written : ℕ → List ℕ → List ℕ
 written i c = pick (eqb i fileX) (c ++ (ascii "," ∷ [])) c

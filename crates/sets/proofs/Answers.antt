@@ -8,7 +8,7 @@ use mathlib.Core.List.{List}
 use Rattle.rules.specs.Plan.{Refusal, Verdict as PaperVerdict, fine, refused, _orElse_, Plan, fileR, fileS, fileX, _before_, upTo, run}
 use Rattle.rules.specs.Sheet.{Sheet}
 use Rattle.rules.specs.Form.{form}
-use Rattle.rules.specs.Check.{Answer as PaperAnswer, accepted, refusal, answer, rules, verdict, points, relations, allTraces, deadTraces, check}
+use Rattle.rules.specs.Check.{Answer as PaperAnswer, accepted, refusal, answer, rules, verdict, points, relations, allTraces, deadTraces, cross}
 use Rattle.rules.specs.Lines.{heads}
 use Rattle.rules.specs.Headers.{rule7, rule8, rule9}
 use Rattle.rules.specs.Codes.{codesFit}
@@ -68,23 +68,23 @@ regroup fine fine fine fine fine fine (refused w) z = refl
 regroup fine fine fine fine fine fine fine z = refl
 
 module _ (r s x : Sheet) where
-  whole-order : answer (run (formsOf r s x before headersFit r s x before codesFit r s x before across r s x)) (counts r s x) ≡ check r s x
-  unfolding check verdict rules run across counts headersFit
+  whole-order : answer (run (formsOf r s x before headersFit r s x before codesFit r s x before across r s x)) (counts r s x) ≡ cross r s x
+  unfolding cross verdict rules run across counts headersFit
   whole-order =
       ap (λ (v : PaperVerdict). answer v (counts r s x))
       (regroup (run (form fileR r)) (run (form fileS s)) (run (form fileX x)) (run (rule7 r)) (run (upTo (heads r) (rule8 r)))
       (run (rule9 fileS r s)) (run (rule9 fileX r x)) (run (codesFit r s x before across r s x)))
 
   module _ (m : fine ≡ run (formsOf r s x)) where
-    pub refused-heads : (w : Refusal) → refused w ≡ run (headersFit r s x) → refusal w ≡ check r s x
+    pub refused-heads : (w : Refusal) → refused w ≡ run (headersFit r s x) → refusal w ≡ cross r s x
     refused-heads w e = refuses _ _ w (before-broken _ _ w e ∙ before-met _ _ m) ∙ whole-order
 
     module _ (n : fine ≡ run (headersFit r s x)) where
-      pub refused-codes : (w : Refusal) → refused w ≡ run (codesFit r s x) → refusal w ≡ check r s x
+      pub refused-codes : (w : Refusal) → refused w ≡ run (codesFit r s x) → refusal w ≡ cross r s x
       refused-codes w e = refuses _ _ w (before-broken _ _ w e ∙ before-met _ _ n ∙ before-met _ _ m) ∙ whole-order
 
       pub judged-across : (a : PaperAnswer) → fine ≡ run (codesFit r s x) → a ≡ answer (run (across r s x)) (counts r s x)
-          → a ≡ check r s x
+          → a ≡ cross r s x
       judged-across a o e =
           e ∙ ap (λ (v : PaperVerdict). answer v (counts r s x)) (before-met _ _ o ∙ before-met _ _ n ∙ before-met _ _ m) ∙ whole-order
 
@@ -98,7 +98,7 @@ module _ (r s x : Sheet) where
       ∙ sym (p ∙ before-met (codesFit r s x) (across r s x) o ∙ before-met (headersFit r s x) (codesFit r s x before across r s x) n
       ∙ before-met (formsOf r s x) (headersFit r s x before codesFit r s x before across r s x) m)
 
-  pub refused-forms : (w : Refusal) → refused w ≡ run (formsOf r s x) → refusal w ≡ check r s x
+  pub refused-forms : (w : Refusal) → refused w ≡ run (formsOf r s x) → refusal w ≡ cross r s x
   refused-forms w e = refuses _ _ w (before-broken _ _ w e) ∙ whole-order
 
   -- a set that meets the rules, for the count of its dead traces

@@ -4,8 +4,8 @@ use Rattle.outcome.specs.One.{One, alike}
 use Rattle.sets.specs.declared.Answer.{Answer}
 use Rattle.sets.specs.declared.Answer.the-variants.{Accepted, Refused}
 use Rattle.sets.specs.Paper.{paper}
-use Rattle.sets.proofs.check as check
-use Rattle.sets.proofs.check.Reads as check-reads
+use Rattle.sets.proofs.cross as cross
+use Rattle.sets.proofs.cross.Reads as cross-reads
 use Rattle.sets.proofs.counts.points as points
 use Rattle.sets.proofs.counts.points.Reads as points-reads
 use Rattle.sets.proofs.counts.relations as relations
@@ -19,8 +19,8 @@ answer-one (Accepted n m k t d) (Refused n′ f′ l′ c′) e = cc
 answer-one (Refused n f l c) (Accepted n′ m′ k′ t′ d′) e = cc
 answer-one (Refused n f l c) (Refused n′ f′ l′ c′) e = cc
 
-pub check-one : One check.ended check-reads.Post
-check-one κs a v v′ w w′ p p′ = (answer-one v v′ (p ∙ sym p′), refl)
+pub cross-one : One cross.ended cross-reads.Post
+cross-one κs a v v′ w w′ p p′ = (answer-one v v′ (p ∙ sym p′), refl)
 
 pub points-one : One points.ended points-reads.Post
 points-one κs a v v′ w w′ = alike

@@ -1,4 +1,4 @@
--- What the answer to the set check tells of the verdict, and a question that is asked after it: 20, then the set's own refusals, then what is found.
+-- What the answer to the cross-check tells of the verdict, and a question that is asked after it: 20, then the set's own refusals, then what is found.
 --   set-accepted, set-refused            = the verdict behind an answer of the code
 --   asked-not, own-refusal, asked-fine   = what is answered where the question is out of range, the set is refused, or neither
 use Prim.Native.Nat.{ℕ}
@@ -8,14 +8,14 @@ use mathlib.Core.Bool.{Bool, true, false}
 use mathlib.Core.List.{List}
 use Rattle.rules.specs.Plan.{Refusal, Verdict, fine, refused, №, _before_, run}
 use Rattle.rules.specs.Sheet.{Sheet}
-use Rattle.rules.specs.Check.{Answer as PaperAnswer, accepted, refusal, rules, verdict, answer, check}
+use Rattle.rules.specs.Check.{Answer as PaperAnswer, accepted, refusal, rules, verdict, answer, cross}
 use Rattle.rules.specs.Questions.{rule20}
 use Rattle.rules.proofs.Steps.{need-met, need-broken, before-met, before-broken}
 use Rattle.lines.specs.Reading.{sheetOf}
 use Rattle.lines.specs.declared.Reading.{Reading}
 use Rattle.sets.specs.declared.Answer.{Answer}
 use Rattle.sets.specs.declared.Answer.the-variants.{Accepted, Refused}
-use Rattle.sets.specs.Paper.{paper, checkOn}
+use Rattle.sets.specs.Paper.{paper, crossOn}
 
 told-refused : (v : Verdict) (a b c d y : ℕ) (w : Refusal) → refusal w ≡ answer v (accepted a b c d y) → v ≡ refused w
 unfolding answer
@@ -27,13 +27,13 @@ unfolding answer
 told-accepted fine a b c d y a′ b′ c′ d′ y′ e = refl
 told-accepted (refused u) a b c d y a′ b′ c′ d′ y′ e = absurd (let z : _≡_ {A = ℕ} 0 1 = cc in omega arith)
 
-module _ (how : Reading) (r s x : List ℕ) (v : Answer) (e : paper v ≡ checkOn how r s x) where
+module _ (how : Reading) (r s x : List ℕ) (v : Answer) (e : paper v ≡ crossOn how r s x) where
   pub set-accepted : (n m k t d : ℕ) → v ≡ Accepted n m k t d → verdict (sheetOf how r) (sheetOf how s) (sheetOf how x) ≡ fine
-  unfolding check
+  unfolding cross
   set-accepted n m k t d y = told-accepted _ n m k t d _ _ _ _ _ (ap paper (sym y) ∙ e)
 
   pub set-refused : (n f l c : ℕ) → v ≡ Refused n f l c → verdict (sheetOf how r) (sheetOf how s) (sheetOf how x) ≡ refused (№ n f l c)
-  unfolding check
+  unfolding cross
   set-refused n f l c y = told-refused _ _ _ _ _ _ (№ n f l c) (ap paper (sym y) ∙ e)
 
 module _ (r s x : Sheet) (A : PaperAnswer) (q : Bool) where

@@ -1,4 +1,4 @@
--- Demand 2 in words: what the answer to the set check says of the sheets of a set.
+-- Demand 2 in words: what the answer to the cross-check says of the sheets of a set.
 --   Judged r s x v = accepted exactly when it meets every rule, with the counts of the set; refused by a number and place exactly when that
 --                    rule is broken there and each rule before it in the order is met
 use Prim.Native.Nat.{ℕ}

@@ -1,6 +1,6 @@
 -- The code's answer as the paper's: its number and values for each case; and the parts of the order that the code looks at one by one.
 --   paper a            = the answer of the paper
---   checkOn how r s x  = the answer to the set check of three files that are read in one way
+--   crossOn how r s x  = the answer to the cross-check of three files that are read in one way
 --   formsOf r s x      = the form of R, then S, then X
 --   pointsOf r s       = 10 over R, then 11 and 12 over S
 --   across r s x       = those, then 13 to 19 line by line over X, last 15
@@ -24,7 +24,7 @@ use Rattle.rules.specs.Cover.{traces}
 use Rattle.rules.specs.Form.{form}
 use Rattle.rules.specs.Codes.{codesFit}
 use Rattle.rules.specs.Order.{rule10}
-use Rattle.rules.specs.Check.{Answer as PaperAnswer, accepted, refusal, points, relations, allTraces, deadTraces, verdict, answer, check}
+use Rattle.rules.specs.Check.{Answer as PaperAnswer, accepted, refusal, points, relations, allTraces, deadTraces, verdict, answer, cross}
 use Rattle.lines.specs.Reading.{sheetOf}
 use Rattle.lines.specs.declared.Reading.{Reading}
 use Rattle.form.specs.Known.{Known}
@@ -39,8 +39,8 @@ abbrev pub paper : Answer → PaperAnswer
 paper (Accepted a b c d e) = accepted a b c d e
 paper (Refused n f l c) = refusal (№ n f l c)
 
-abbrev pub checkOn : Reading → List ℕ → List ℕ → List ℕ → PaperAnswer
-checkOn how r s x = check (sheetOf how r) (sheetOf how s) (sheetOf how x)
+abbrev pub crossOn : Reading → List ℕ → List ℕ → List ℕ → PaperAnswer
+crossOn how r s x = cross (sheetOf how r) (sheetOf how s) (sheetOf how x)
 
 abbrev pub formsOf : Sheet → Sheet → Sheet → Plan
 formsOf r s x = form fileR r before form fileS s before form fileX x

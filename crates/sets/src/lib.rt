@@ -1,4 +1,4 @@
-// The set check: the form of R, S and X, the header rules, the code tables, then the rules across the files, and the counts of an accepted set.
+// The cross-check: the form of R, S and X, the header rules, the code tables, then the rules across the files, and the counts of an accepted set.
 // Two arrays of line numbers are its own, 80 KB of its stack; nothing is allocated.
 ghost use mathlib.Core.Path.{_≡_};
 ghost use Rattle.rules.specs.Plan.{run};
@@ -6,7 +6,7 @@ ghost use Rattle.lines.specs.Paper.{paper as verdictOf};
 ghost use Rattle.lines.specs.Reading.{sheetOf};
 ghost use Rattle.form.specs.Known.{Known};
 ghost use Rattle.relations.specs.Walk.{allRelate};
-ghost use Rattle.sets.specs.Paper.{paper, checkOn, formsOf, pointsOf, across as acrossOf, counts as countsOf, answeredAcross};
+ghost use Rattle.sets.specs.Paper.{paper, crossOn, formsOf, pointsOf, across as acrossOf, counts as countsOf, answeredAcross};
 ghost use Rattle.sets.specs.Paper.{KnownSet, Headed, Met, Ordered, Arrays};
 use keys::By;
 use keys::Keyed;
@@ -15,7 +15,7 @@ use lines::Verdict;
 
 mod counts;
 
-// What the set check answers: accepted, with receivers, shots, relation lines, traces and dead traces; or refused, with number, file (R 1, S 2,
+// What the cross-check answers: accepted, with receivers, shots, relation lines, traces and dead traces; or refused, with number, file (R 1, S 2,
 // X 3), line and column.
 pub enum Answer {
     Accepted(u64, u64, u64, u64, u64),
@@ -26,15 +26,15 @@ pub enum Answer {
 fn forms(how: Reading, r: &[u8], s: &[u8], x: &[u8]) -> Verdict
     ensures verdict { λ v. ⌜ verdictOf v ≡ run (formsOf (sheetOf how (now (r .entry))) (sheetOf how (now (s .entry))) (sheetOf how (now (x .entry)))) ⌝ }
 {
-    let v = form::form(how, r, 1);
+    let v = form::file_fits(how, r, 1);
     if let Verdict::Refused(_, _, _, _) = v {
         return v;
     }
-    let u = form::form(how, s, 2);
+    let u = form::file_fits(how, s, 2);
     if let Verdict::Refused(_, _, _, _) = u {
         return u;
     }
-    form::form(how, x, 3)
+    form::file_fits(how, x, 3)
 }
 
 // 13, 14, 16 to 19: relation lines by record, receivers by name, index and number, one after the other in the same arrays.
@@ -141,9 +141,9 @@ fn answer_across(how: Reading, r: &[u8], s: &[u8], x: &[u8]) -> Answer
     counted(how, r, s, x, &mut o, &mut p)
 }
 
-// Checks a set of three files of any length and content, read in one way.
-pub fn check(how: Reading, r: &[u8], s: &[u8], x: &[u8]) -> Answer
-    ensures answer { λ a. ⌜ paper a ≡ checkOn how (now (r .entry)) (now (s .entry)) (now (x .entry)) ⌝ }
+// The cross-check of three files of any length and content, read in one way. It looks at the form of each itself.
+pub fn cross(how: Reading, r: &[u8], s: &[u8], x: &[u8]) -> Answer
+    ensures answer { λ a. ⌜ paper a ≡ crossOn how (now (r .entry)) (now (s .entry)) (now (x .entry)) ⌝ }
 {
     let v = forms(how, r, s, x);
     if let Verdict::Refused(n, i, k, c) = v {

@@ -19,14 +19,14 @@ use Rattle.rules.specs.Layout.{sps93}
 use Rattle.rules.specs.Lines.{isData, isPoint}
 use Rattle.rules.specs.Relations.{reachAt}
 use Rattle.rules.specs.Cover.{traces}
-use Rattle.rules.specs.Check.{Answer, accepted, refusal, trace, channel, highest, headerLine, noTrace}
-use Rattle.rules.specs.Check.{points, relations, allTraces, deadOf, deadTraces, verdict, answer, check}
+use Rattle.rules.specs.Check.{Answer, accepted, refusal, trace, channel, highest, headerLine, noTrace, formed}
+use Rattle.rules.specs.Check.{points, relations, allTraces, deadOf, deadTraces, verdict, answer, cross}
 use Rattle.rules.specs.MeetsForm.{Data, Point}
 use Rattle.rules.proofs.Form.{data-is, point-is}
 use Rattle.rules.proofs.Which.{how-many, how-much}
 use Rattle.rules.proofs.Counts.{accepted-is}
 use Rattle.rules.proofs.Medium.{Lawful}
-use Rattle.rules.proofs.Hosts.{Sized, check-sized}
+use Rattle.rules.proofs.Hosts.{Sized, cross-sized}
 use Rattle.sps.specs.Counts.{lowBytes, placed, counted}
 use Rattle.sps.specs.Said.{valueOf, readAt}
 use Rattle.sps.proofs.Placed.{or-less, low-length, placed-whole, placed-short, placed-none, placed-length}
@@ -82,6 +82,7 @@ counted-view P f g (channel c) o = g o
 counted-view P f g (highest c) o = g o
 counted-view P f g (headerLine l) o = g o
 counted-view P f g noTrace o = g o
+counted-view P f g formed o = g o
 
 -- the counts of an accepted set are far below 2^64
 one-few : (b : Bool) → pick b 1 0 ≤ 1
@@ -128,8 +129,8 @@ unfolding deadTraces allTraces deadOf
 dead-few r x = sum-le (x .count) _ _ (λ k. pick-le (isData x k) _ (traces (reachAt x k)) (count-few (traces (reachAt x k)) _))
 
 -- the last two counts of an accepted set
-last-two : (r s x : Sheet) (n m k t d : ℕ) → check r s x ≡ accepted n m k t d → (t ≡ allTraces x) × (d ≡ deadTraces r x)
-unfolding check answer
+last-two : (r s x : Sheet) (n m k t d : ℕ) → cross r s x ≡ accepted n m k t d → (t ≡ allTraces x) × (d ≡ deadTraces r x)
+unfolding cross answer
 last-two r s x n m k t d = go (verdict r s x)
   where
     go : (v : Verdict) → answer v (accepted (points r) (points s) (relations x) (allTraces x) (deadTraces r x)) ≡ accepted n m k t d
@@ -144,7 +145,7 @@ module _ (M : Medium) (g : Lawful M) (r s x : List ℕ) where
   few-lines : (f : List ℕ) → allLines (file f) ≤ mostLines → file f .count ≤ mostLines
   few-lines f h = omega arith
 
-  counts-few : (n m k t y : ℕ) → check (file r) (file s) (file x) ≡ accepted n m k t y → (i : ℕ) → getD (n ∷ m ∷ k ∷ t ∷ y ∷ []) i 0 < 256 ^ 8
+  counts-few : (n m k t y : ℕ) → cross (file r) (file s) (file x) ≡ accepted n m k t y → (i : ℕ) → getD (n ∷ m ∷ k ∷ t ∷ y ∷ []) i 0 < 256 ^ 8
   unfolding mostLines sheet sps93
   counts-few n m k t y q =
       let w = accepted-is (file r) (file s) (file x) n m k t y .0 q in
@@ -154,7 +155,7 @@ module _ (M : Medium) (g : Lawful M) (r s x : List ℕ) where
       let dead = dead-few (file r) (file x) in
       let ok = w .0 in
       let c = w .1 in
-      let few : t < 2 ^ 40 = subst Sized q (check-sized M g r s x) in
+      let few : t < 2 ^ 40 = subst Sized q (cross-sized M g r s x) in
       let a = how-many (file r) (isPoint (file r)) (Point (file r)) (point-is (file r)) n .0 (c .receivers) in
       let b = how-many (file s) (isPoint (file s)) (Point (file s)) (point-is (file s)) m .0 (c .shots) in
       let d = how-much (file x) (isData (file x)) (Data (file x)) (data-is (file x)) _ k t .0 (c .relations) .0 in
@@ -164,14 +165,14 @@ module _ (M : Medium) (g : Lawful M) (r s x : List ℕ) where
       (omega arith)
 
   -- o stands in the slice before the call, and e afterwards
-  module _ (o e : List ℕ) (w : e ≡ counted (check (file r) (file s) (file x)) o) where
+  module _ (o e : List ℕ) (w : e ≡ counted (cross (file r) (file s) (file x)) o) where
     pub length-stays : length e ≡ length o
     length-stays =
         rw w
         (counted-view (λ o e. length e ≡ length o) (λ n m k t d o. placed-length (n ∷ m ∷ k ∷ t ∷ d ∷ []) o) (λ o. refl)
-        (check (file r) (file s) (file x)) o)
+        (cross (file r) (file s) (file x)) o)
 
-    pub count-at : (n m k t y : ℕ) → check (file r) (file s) (file x) ≡ accepted n m k t y
+    pub count-at : (n m k t y : ℕ) → cross (file r) (file s) (file x) ≡ accepted n m k t y
         → (i : ℕ) → i < 5 → 8 * i + 8 ≤ length o → readAt i e ≡ getD (n ∷ m ∷ k ∷ t ∷ y ∷ []) i 0
     unfolding counted
     count-at n m k t y q i h l =
@@ -181,8 +182,8 @@ module _ (M : Medium) (g : Lawful M) (r s x : List ℕ) where
     beyond-stays i h =
         rw w
         (counted-view (λ o e. (i < 5 → length o < 8 * i + 8) → drop (8 * i) e ≡ drop (8 * i) o)
-        (λ n m k t d o. placed-beyond i (n ∷ m ∷ k ∷ t ∷ d ∷ []) o) (λ o h. refl) (check (file r) (file s) (file x)) o h)
+        (λ n m k t d o. placed-beyond i (n ∷ m ∷ k ∷ t ∷ d ∷ []) o) (λ o h. refl) (cross (file r) (file s) (file x)) o h)
 
-    pub refusal-stays : (v : Refusal) → check (file r) (file s) (file x) ≡ refusal v → e ≡ o
+    pub refusal-stays : (v : Refusal) → cross (file r) (file s) (file x) ≡ refusal v → e ≡ o
     unfolding counted
     refusal-stays v q = rw q at w

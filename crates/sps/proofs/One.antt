@@ -25,10 +25,14 @@ use Rattle.sps.proofs.places.put as places-put
 use Rattle.sps.proofs.places.put.Reads as places-put-reads
 use Rattle.sps.proofs.places.put_all as places-put-all
 use Rattle.sps.proofs.places.put_all.Reads as places-put-all-reads
-use Rattle.sps.proofs.checked as checked
-use Rattle.sps.proofs.checked.Reads as checked-reads
-use Rattle.sps.proofs.sps_check as sps-check
-use Rattle.sps.proofs.sps_check.Reads as sps-check-reads
+use Rattle.sps.proofs.crossed as crossed
+use Rattle.sps.proofs.crossed.Reads as crossed-reads
+use Rattle.sps.proofs.form_number as form-number
+use Rattle.sps.proofs.form_number.Reads as form-number-reads
+use Rattle.sps.proofs.sps_form as sps-form
+use Rattle.sps.proofs.sps_form.Reads as sps-form-reads
+use Rattle.sps.proofs.sps_cross as sps-cross
+use Rattle.sps.proofs.sps_cross.Reads as sps-cross-reads
 use Rattle.sps.proofs.sps_counts as sps-counts
 use Rattle.sps.proofs.sps_counts.Reads as sps-counts-reads
 use Rattle.sps.proofs.sps_trace as sps-trace
@@ -66,11 +70,17 @@ places-put-one κs a v v′ w w′ p p′ = (refl, both refl (both refl (both (p
 pub places-put-all-one : One places-put-all.ended places-put-all-reads.Post
 places-put-all-one κs a v v′ w w′ p p′ = (refl, both refl (both (p ∙ sym p′) refl))
 
-pub checked-one : One checked.ended checked-reads.Post
-checked-one κs a v v′ w w′ p p′ = (set-one v v′ (p ∙ sym p′), refl)
+pub crossed-one : One crossed.ended crossed-reads.Post
+crossed-one κs a v v′ w w′ p p′ = (set-one v v′ (p ∙ sym p′), refl)
 
-pub sps-check-one : One sps-check.ended sps-check-reads.Post
-sps-check-one κs a v v′ w w′ p p′ = (p ∙ sym p′, refl)
+pub form-number-one : One form-number.ended form-number-reads.Post
+form-number-one κs a v v′ w w′ p p′ = (p ∙ sym p′, refl)
+
+pub sps-form-one : One sps-form.ended sps-form-reads.Post
+sps-form-one κs a v v′ w w′ p p′ = (p ∙ sym p′, refl)
+
+pub sps-cross-one : One sps-cross.ended sps-cross-reads.Post
+sps-cross-one κs a v v′ w w′ p p′ = (p ∙ sym p′, refl)
 
 pub sps-counts-one : One sps-counts.ended sps-counts-reads.Post
 sps-counts-one κs a v v′ w w′ p p′ = (p .0 ∙ sym (p′ .0), both refl (both refl (both refl (both refl (both (p .1 ∙ sym (p′ .1)) refl)))))

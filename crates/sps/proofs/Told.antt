@@ -7,12 +7,14 @@ use mathlib.Core.Logic.{⊎-elim}
 use mathlib.Core.Bool.{Bool, true, false}
 use mathlib.Core.List.{List}
 use Rattle.rules.specs.Places.{pick}
-use Rattle.rules.specs.Plan.{№, Verdict, fine, refused, _before_, run}
+use Rattle.rules.specs.Plan.{№, Verdict as PaperVerdict, fine, refused, _before_, run}
 use Rattle.rules.specs.Sheet.{Sheet}
 use Rattle.rules.specs.Codes.{lineNaming}
-use Rattle.rules.specs.Check.{Answer, accepted, refusal, highest, headerLine, rules, verdict, answer, points, relations, allTraces, deadTraces, trace, check}
+use Rattle.rules.specs.OneFile.{oneFile, fileForm}
+use Rattle.rules.specs.Check.{Answer, accepted, refusal, highest, headerLine, formed, rules, verdict, answer, points, relations, allTraces, deadTraces, trace, cross}
 use Rattle.rules.specs.Questions.{rule20}
-use Rattle.rules.specs.Tables.{kindOf, written, codeAsked, tableLine}
+use Rattle.rules.specs.Lines.{kindOf}
+use Rattle.rules.specs.Tables.{written, codeAsked, tableLine}
 use Rattle.rules.specs.Medium.{Medium}
 use Rattle.rules.specs.Calls.{Choice as PaperChoice, on, none, chosen}
 use Rattle.rules.specs.Lookup.{found, foundBack, lookup, wayBack}
@@ -26,6 +28,9 @@ use Rattle.lines.specs.Reading.{mediumOf, chosenBy}
 use Rattle.lines.specs.declared.Reading.{Reading}
 use Rattle.lines.specs.declared.Choice.{Choice}
 use Rattle.lines.specs.declared.Choice.the-variants.{On, None}
+use Rattle.lines.specs.declared.Verdict.{Verdict}
+use Rattle.lines.specs.declared.Verdict.the-variants.{Fine, Refused as FormRefused}
+use Rattle.form.specs.Paper.{answered}
 use Rattle.sets.specs.declared.Answer.{Answer as SetAnswer}
 use Rattle.sets.specs.declared.Answer.the-variants.{Accepted, Refused as SetRefused}
 use Rattle.sets.specs.Paper.{paper as setPaper}
@@ -37,13 +42,18 @@ use Rattle.traces.specs.declared.Answer.the-variants.{Trace, Channel, NoTrace, 
 use Rattle.traces.specs.declared.Spread.{Spread}
 use Rattle.traces.specs.declared.Spread.the-variants.{Highest, Refused as Denied}
 use Rattle.traces.specs.Paper.{paper as questionPaper, paperSpread}
-use Rattle.sps.specs.Said.{RefusedAs, TellsSet, Tells, TellsSpread, TellsLine}
+use Rattle.sps.specs.Said.{RefusedAs, TellsForm, TellsSet, Tells, TellsSpread, TellsLine}
 
 pub refused-as : (i f l c : ℕ) → Listed (№ i f l c) → (n : ℕ) → n ≡ packed (№ i f l c) → RefusedAs n i f l c
 unfolding packed
 refused-as i f l c w n e =
     let o = listed-within i f l c w .0 .0 in
     (omega arith, rw e (refusal-parts i f l c w))
+
+pub tells-form : (v : Verdict) → Sized (answered v) → (n : ℕ) → n ≡ hostNumber (answered v) → TellsForm n v
+unfolding hostNumber
+tells-form Fine z n e = e
+tells-form (FormRefused i f l c) z n e = refused-as i f l c z n e
 
 pub tells-set : (v : SetAnswer) → Sized (setPaper v) → (n : ℕ) → n ≡ hostNumber (setPaper v) → TellsSet n v
 unfolding hostNumber
@@ -95,15 +105,23 @@ module _ (d : Choice) (e : PaperChoice) (p : chosenBy d ≡ e) where
   no-choice q A = ap (λ (u : PaperChoice). chosen u A) (chose-none q)
 
 -- what the definitions answer is an answer of the code
-pub set-answer : (r s x : Sheet) → (v : SetAnswer) × (setPaper v ≡ check r s x)
-unfolding check answer
+pub form-answer : (b : ℕ) (f : Sheet) → (v : Verdict) × (answered v ≡ fileForm b f)
+unfolding fileForm answer
+form-answer b f = go (run (oneFile b f))
+  where
+    go : (u : PaperVerdict) → (v : Verdict) × (answered v ≡ answer u formed)
+    go fine = (Fine, refl)
+    go (refused (№ i f l c)) = (FormRefused i f l c, refl)
+
+pub set-answer : (r s x : Sheet) → (v : SetAnswer) × (setPaper v ≡ cross r s x)
+unfolding cross answer
 set-answer r s x = go (verdict r s x)
   where
-    go : (u : Verdict) → (v : SetAnswer) × (setPaper v ≡ answer u (accepted (points r) (points s) (relations x) (allTraces x) (deadTraces r x)))
+    go : (u : PaperVerdict) → (v : SetAnswer) × (setPaper v ≡ answer u (accepted (points r) (points s) (relations x) (allTraces x) (deadTraces r x)))
     go fine = (Accepted (points r) (points s) (relations x) (allTraces x) (deadTraces r x), refl)
     go (refused (№ i f l c)) = (SetRefused i f l c, refl)
 
-after : (u : Verdict) (a : Answer) → (v : Question) × (questionPaper v ≡ a) → (v : Question) × (questionPaper v ≡ answer u a)
+after : (u : PaperVerdict) (a : Answer) → (v : Question) × (questionPaper v ≡ a) → (v : Question) × (questionPaper v ≡ answer u a)
 unfolding answer
 after fine a w = w
 after (refused (№ i f l c)) a w = (Refused i f l c, refl)
@@ -122,7 +140,7 @@ pub spread-answer : (r s x : Sheet) (t : List ℕ) (n a b : ℕ) → (v : Spread
 unfolding spread answer
 spread-answer r s x t n a b = go (spreadVerdict r s x t n a b)
   where
-    go : (u : Verdict) → (v : Spread) × (paperSpread v ≡ answer u (highest (highestOf x t n)))
+    go : (u : PaperVerdict) → (v : Spread) × (paperSpread v ≡ answer u (highest (highestOf x t n)))
     go fine = (Highest (highestOf x t n), refl)
     go (refused (№ i f l c)) = (Denied i f l c, refl)
 
@@ -130,6 +148,6 @@ pub line-answer : (r s x : Sheet) (b : ℕ) (c : List ℕ) → (v : LineAnswer) 
 unfolding tableLine answer
 line-answer r s x b c = go (run (rule20 (codeAsked (kindOf b) c) before rules r s x))
   where
-    go : (u : Verdict) → (v : LineAnswer) × (linePaper v ≡ answer u (headerLine (lineNaming r (kindOf b) (written (kindOf b) c))))
+    go : (u : PaperVerdict) → (v : LineAnswer) × (linePaper v ≡ answer u (headerLine (lineNaming r (kindOf b) (written (kindOf b) c))))
     go fine = (Line (lineNaming r (kindOf b) (written (kindOf b) c)), refl)
     go (refused (№ i f l d)) = (LineRefused i f l d, refl)

@@ -9,7 +9,7 @@ use mathlib.Core.List.{List, [], _∷_, _++_}
 use lib.Dec.{leb}
 use lib.ListN.{length, take, drop}
 use Rattle.rules.specs.Places.{pick}
-use Rattle.rules.specs.Check.{Answer, accepted, refusal, trace, channel, highest, headerLine, noTrace}
+use Rattle.rules.specs.Check.{Answer, accepted, refusal, trace, channel, highest, headerLine, noTrace, formed}
 
 unfoldable pub lowBytes : ℕ → ℕ → List ℕ
 lowBytes zero v = []
@@ -30,3 +30,4 @@ counted (channel c) o = o
 counted (highest c) o = o
 counted (headerLine l) o = o
 counted noTrace o = o
+counted formed o = o

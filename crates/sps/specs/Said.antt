@@ -2,7 +2,9 @@
 -- + line * 256 + column (R 1, S 2, X 3); otherwise the traces, the R line * 16 + component, the channel, or the highest channel, and 0 where
 -- there is none."
 --   RefusedAs n i f l c  = n is that refusal, and its parts come back
---   TellsSet n a         = n is the number of an answer to the set check
+--   TellsForm n v        = n is the number of a verdict on the form of one file
+--   TellsParts n m k t   = n, m and k are the numbers of the forms of R, S and X, and t that of the cross-check of the three
+--   TellsSet n a         = n is the number of an answer to the cross-check
 --   Tells n a            = n is the number of an answer to a question
 --   TellsSpread n a      = n is the number of an answer of the spread table
 --   TellsLine n a        = n is the number of an answer on the code tables
@@ -13,6 +15,8 @@ use mathlib.Core.Path.{_≡_}
 use mathlib.Core.List.{List, [], _∷_}
 use lib.ListN.{length, getD, take, drop}
 use Rattle.rules.specs.Places.{pick}
+use Rattle.lines.specs.declared.Verdict.{Verdict}
+use Rattle.lines.specs.declared.Verdict.the-variants.{Fine, Refused as FormRefused}
 use Rattle.sets.specs.declared.Answer.{Answer as SetAnswer}
 use Rattle.sets.specs.declared.Answer.the-variants.{Accepted, Refused as SetRefused}
 use Rattle.tables.specs.declared.Answer.{Answer as LineAnswer}
@@ -25,6 +29,17 @@ use Rattle.traces.specs.declared.Spread.the-variants.{Highest, Refused as Denie
 abbrev pub RefusedAs : ℕ → ℕ → ℕ → ℕ → ℕ → Type 0
 RefusedAs n i f l c =
     (2 ^ 40 ≤ n) × ((n / 2 ^ 40 ≡ i) × ((n / 2 ^ 32 % 256 ≡ f) × ((n / 256 % 2 ^ 24 ≡ l) × (n % 256 ≡ c))))
+
+abbrev pub TellsForm : ℕ → Verdict → Type 0
+TellsForm n Fine = n ≡ 0
+TellsForm n (FormRefused i f l c) = RefusedAs n i f l c
+
+-- "three files are accepted by the cross-check only if each is by the form of its kind, and if one is not, it refuses as the first of the three does"
+pub record TellsParts (n m k t : ℕ) : Type 0 where
+  pub accepted-only : t < 2 ^ 40 → (n ≡ 0) × ((m ≡ 0) × (k ≡ 0))
+  pub as-r : (n ≡ 0 → ⊥) → t ≡ n
+  pub as-s : n ≡ 0 → (m ≡ 0 → ⊥) → t ≡ m
+  pub as-x : n ≡ 0 → m ≡ 0 → (k ≡ 0 → ⊥) → t ≡ k
 
 abbrev pub TellsSet : ℕ → SetAnswer → Type 0
 TellsSet n (Accepted a b c t d) = (n < 2 ^ 40) × (n ≡ t)

@@ -1,5 +1,5 @@
-// The calls for C hosts, which `include/sps.h` declares: the check, both lookups, the spread table and the line that names a code, on numbers
-// and byte slices.
+// The calls for C hosts, which `include/sps.h` declares: the form of one file, the cross-check of three, both lookups, the spread table and the
+// line that names a code, on numbers and byte slices.
 // Each carries the answer of the proved call over as one 64-bit number: a refusal from 2^40 on, any other answer below. The number of the
 // medium comes first, and is looked at before all else.
 ghost use mathlib.Core.Path.{_≡_};
@@ -8,8 +8,9 @@ ghost use Rattle.rules.specs.Places.{pick};
 ghost use Rattle.rules.specs.Plan.{№};
 ghost use Rattle.rules.specs.Layout.{sps93};
 ghost use Rattle.rules.specs.Medium.{sheet};
-ghost use Rattle.rules.specs.Calls.{choice, checkIn, lookupIn, wayBackIn, tableLineIn};
+ghost use Rattle.rules.specs.Calls.{choice, formIn, crossIn, lookupIn, wayBackIn, tableLineIn};
 ghost use Rattle.rules.specs.Hosts.{packed, hostNumber};
+ghost use Rattle.form.specs.Paper.{answered};
 ghost use Rattle.sets.specs.Paper.{paper as setPaper};
 ghost use Rattle.traces.specs.Paper.{paper as questionPaper, paperSpread};
 ghost use Rattle.traces.specs.Calls.{tableOf};
@@ -17,6 +18,7 @@ ghost use Rattle.tables.specs.Paper.{paper as linePaper};
 ghost use Rattle.sps.specs.Counts.{counted};
 ghost use Rattle.sps.specs.Table.{SpreadTold};
 use lines::Choice;
+use lines::Verdict;
 use sets::Answer as SetAnswer;
 use tables::Answer as LineAnswer;
 use traces::Answer;
@@ -32,7 +34,17 @@ fn pack(number: u8, place: u8, line: u32, column: u8) -> u64
     number as u64 * 1099511627776 + place as u64 * 4294967296 + line as u64 * 256 + column as u64
 }
 
-// The answer to the set check as one number: the traces.
+// The verdict on the form of one file as one number: 0 where it is well formed.
+fn form_number(v: Verdict) -> u64
+    ensures value { λ n. ⌜ n ≡ hostNumber (answered v) ⌝ }
+{
+    match v {
+        Verdict::Fine => 0,
+        Verdict::Refused(n, f, l, c) => pack(n, f, l, c),
+    }
+}
+
+// The answer to the cross-check as one number: the traces.
 fn set_number(a: SetAnswer) -> u64
     ensures value { λ n. ⌜ n ≡ hostNumber (setPaper a) ⌝ }
 {
@@ -94,33 +106,44 @@ fn line_number(a: LineAnswer) -> u64
     }
 }
 
-// The set check of the medium's number.
-fn checked(medium: u64, r: &[u8], s: &[u8], x: &[u8]) -> SetAnswer
-    ensures answer { λ a. ⌜ setPaper a ≡ checkIn (choice medium) (now (r .entry)) (now (s .entry)) (now (x .entry)) ⌝ }
+// The cross-check of the medium's number.
+fn crossed(medium: u64, r: &[u8], s: &[u8], x: &[u8]) -> SetAnswer
+    ensures answer { λ a. ⌜ setPaper a ≡ crossIn (choice medium) (now (r .entry)) (now (s .entry)) (now (x .entry)) ⌝ }
 {
     match lines::chosen(medium) {
-        Choice::On(how) => sets::check(how, r, s, x),
+        Choice::On(how) => sets::cross(how, r, s, x),
         Choice::None => SetAnswer::Refused(20, 0, 0, 0),
     }
 }
 
-// Checks a set: its traces.
+// The form of one file of a kind, the letter R, S or X: 0 where it is well formed.
 #[no_mangle]
-pub extern "C" fn sps_check(medium: u64, r: &[u8], s: &[u8], x: &[u8]) -> u64
-    ensures answer { λ n. ⌜ n ≡ hostNumber (checkIn (choice medium) (now (r .entry)) (now (s .entry)) (now (x .entry))) ⌝ }
+pub extern "C" fn sps_form(medium: u64, kind: u64, file: &[u8]) -> u64
+    ensures answer { λ n. ⌜ n ≡ hostNumber (formIn (choice medium) kind (now (file .entry))) ⌝ }
 {
-    set_number(checked(medium, r, s, x))
+    match lines::chosen(medium) {
+        Choice::On(how) => form_number(form::form(how, kind, file)),
+        Choice::None => pack(20, 0, 0, 0),
+    }
+}
+
+// The cross-check of a set: its traces.
+#[no_mangle]
+pub extern "C" fn sps_cross(medium: u64, r: &[u8], s: &[u8], x: &[u8]) -> u64
+    ensures answer { λ n. ⌜ n ≡ hostNumber (crossIn (choice medium) (now (r .entry)) (now (s .entry)) (now (x .entry))) ⌝ }
+{
+    set_number(crossed(medium, r, s, x))
 }
 
 // The same, and the receivers, shots, relation lines, traces and dead traces of an accepted set in counts: places of eight bytes, low byte first, of
 // which those are written that counts has whole. A refusal writes nothing.
 #[no_mangle]
 pub extern "C" fn sps_counts(medium: u64, r: &[u8], s: &[u8], x: &[u8], counts: &mut [u8]) -> u64
-    ensures answer { λ n. ⌜ n ≡ hostNumber (checkIn (choice medium) (now (r .entry)) (now (s .entry)) (now (x .entry))) ⌝ }
+    ensures answer { λ n. ⌜ n ≡ hostNumber (crossIn (choice medium) (now (r .entry)) (now (s .entry)) (now (x .entry))) ⌝ }
     ensures written { λ _. ⌜ now (counts .exit)
-        ≡ counted (checkIn (choice medium) (now (r .entry)) (now (s .entry)) (now (x .entry))) (now (counts .entry)) ⌝ }
+        ≡ counted (crossIn (choice medium) (now (r .entry)) (now (s .entry)) (now (x .entry))) (now (counts .entry)) ⌝ }
 {
-    let a = checked(medium, r, s, x);
+    let a = crossed(medium, r, s, x);
     put_counts(a, counts);
     set_number(a)
 }

@@ -1,5 +1,4 @@
 -- What the code finds of a question on the code tables.
---   kind-r .. kind-none             = the letter of a kind
 --   not-asked .. asked-point        = a code of the kind, or none
 --   naming-instrument, naming-point = the line that names it
 --   out-of-range, set-refuses, told = what is answered
@@ -16,40 +15,13 @@ use Rattle.rules.specs.Plan.{Refusal, refused, fine, №, fileR, fileS, fileX}
 use Rattle.rules.specs.Sheet.{Sheet, mostLines}
 use Rattle.rules.specs.Codes.{tablesOf, lineNaming}
 use Rattle.rules.specs.Check.{refusal, headerLine, verdict}
-use Rattle.rules.specs.Tables.{kindOf, written, codeAsked, tableLine}
+use Rattle.rules.specs.Lines.{kindOf}
+use Rattle.rules.specs.Tables.{written, codeAsked, tableLine}
 use Rattle.rules.proofs.Tests.{and-is}
 use Rattle.rules.proofs.Meets.{verdict-meets}
 use Rattle.lines.specs.Reading.{sheetOf}
 use Rattle.lines.specs.declared.Reading.{Reading}
 use Rattle.sets.proofs.Verdicts.{asked-not, own-refusal, asked-fine}
-
--- the letter of a kind
-module _ (b : ℕ) where
-  pub kind-r : b ≡ 82 → 1 ≡ kindOf b
-  unfolding kindOf pick
-  kind-r e = rw e
-
-  pub kind-s : b ≡ 83 → 2 ≡ kindOf b
-  unfolding kindOf pick
-  kind-s e = rw e
-
-  pub kind-x : b ≡ 88 → 3 ≡ kindOf b
-  unfolding kindOf pick
-  kind-x e = rw e
-
-  pub kind-none : (b ≡ 82 → ⊥) → (b ≡ 83 → ⊥) → (b ≡ 88 → ⊥) → 0 ≡ kindOf b
-  unfolding kindOf pick
-  kind-none n m o = rw (ne-eqb b 82 n, ne-eqb b 83 m, ne-eqb b 88 o)
-
-  pub few-kinds : (i : ℕ) → i ≡ kindOf b → i ≤ 3
-  unfolding kindOf pick
-  few-kinds i e = go (eqb b 82) (eqb b 83) (eqb b 88) i e
-    where
-      go : (r s x : Bool) (i : ℕ) → i ≡ pick r fileR (pick s fileS (pick x fileX 0)) → i ≤ 3
-      go true s x i e = omega arith
-      go false true x i e = omega arith
-      go false false true i e = omega arith
-      go false false false i e = omega arith
 
 -- an accepted set has few lines
 pub few-lines : (how : Reading) (r s x : List ℕ) → verdict (sheetOf how r) (sheetOf how s) (sheetOf how x) ≡ fine → sheetOf how r .count ≤ mostLines

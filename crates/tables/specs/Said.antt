@@ -7,7 +7,8 @@ use mathlib.Core.Logic.{_↔_}
 use mathlib.Core.List.{List}
 use Rattle.rules.specs.Plan.{№}
 use Rattle.rules.specs.Sheet.{Sheet}
-use Rattle.rules.specs.Tables.{kindOf, written}
+use Rattle.rules.specs.Lines.{kindOf}
+use Rattle.rules.specs.Tables.{written}
 use Rattle.rules.specs.Meets.{Meets}
 use Rattle.rules.specs.Refuses.{First}
 use Rattle.rules.specs.MeetsQuestions.{AskedCode, NamedIn, tableOrder}

@@ -4,7 +4,7 @@ ghost use mathlib.Core.Bool.{true};
 ghost use Prim.Native.Nat.{_≤_};
 ghost use Rattle.rules.specs.Sheet.{mostLines};
 ghost use Rattle.rules.specs.Codes.{lineNaming};
-ghost use Rattle.rules.specs.Tables.{kindOf, written, codeAsked};
+ghost use Rattle.rules.specs.Tables.{written, codeAsked};
 ghost use Rattle.lines.specs.Reading.{sheetOf};
 ghost use Rattle.tables.specs.Paper.{paper, tableLineOn};
 use lines::Reading;
@@ -14,18 +14,6 @@ use sets::Answer as SetAnswer;
 pub enum Answer {
     Line(u32),
     Refused(u8, u8, u32, u8),
-}
-
-// The kind of codes of a letter: R receivers 1, S sources 2, X instruments 3; 0 of any other.
-fn kind_of(letter: u64) -> u8
-    ensures value { λ i. ⌜ i ≡ kindOf letter ⌝ }
-{
-    match letter {
-        82 => 1,
-        83 => 2,
-        88 => 3,
-        _ => 0,
-    }
 }
 
 // A code of kind i: two bytes, of an instrument one digit.
@@ -62,11 +50,11 @@ fn line_naming(how: Reading, r: &[u8], i: u8, code: &[u8]) -> u32
 pub fn table_line(how: Reading, r: &[u8], s: &[u8], x: &[u8], kind: u64, code: &[u8]) -> Answer
     ensures answer { λ a. ⌜ paper a ≡ tableLineOn how (now (r .entry)) (now (s .entry)) (now (x .entry)) kind (now (code .entry)) ⌝ }
 {
-    let i = kind_of(kind);
+    let i = lines::kind_of(kind);
     if !code_asked(i, code) {
         return Answer::Refused(20, 0, 0, 0);
     }
-    match sets::check(how, r, s, x) {
+    match sets::cross(how, r, s, x) {
         SetAnswer::Accepted(_, _, _, _, _) => Answer::Line(line_naming(how, r, i, code)),
         SetAnswer::Refused(n, f, l, c) => Answer::Refused(n, f, l, c),
     }

@@ -89,7 +89,7 @@ pub fn trace(q: Question, r: &[u8], s: &[u8], x: &[u8], tape: &[u8], channel: u6
     if !asked::channel(channel) {
         return Answer::Refused(20, 0, 0, 0);
     }
-    match sets::check(how, r, s, x) {
+    match sets::cross(how, r, s, x) {
         SetAnswer::Accepted(_, _, _, _, _) => found(how, r, x, tape, record, channel),
         SetAnswer::Refused(i, f, l, e) => Answer::Refused(i, f, l, e),
     }
@@ -164,7 +164,7 @@ pub fn channel(
     if !asked::receiver(r_line, component) {
         return Answer::Refused(20, 0, 0, 0);
     }
-    match sets::check(how, r, s, x) {
+    match sets::cross(how, r, s, x) {
         SetAnswer::Accepted(_, _, _, _, _) => found_back(
             how,
             r,
@@ -188,7 +188,7 @@ fn judged(q: Question, r: &[u8], s: &[u8], x: &[u8], tape: &[u8], m: usize, n: u
     if !asked::record(tape, record) {
         return Spread::Refused(20, 0, 0, 0);
     }
-    let v = sets::check(how, r, s, x);
+    let v = sets::cross(how, r, s, x);
     if let SetAnswer::Refused(i, f, l, e) = v {
         return Spread::Refused(i, f, l, e);
     }

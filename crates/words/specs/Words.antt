@@ -1,6 +1,6 @@
 -- "It prints one line": what the program says of a set or of a file, as bytes.
 --   row w vs        = a word and values, a blank before each, and a line feed
---   line a          = the line of an answer to the set check; none of another answer
+--   line a          = the line of an answer to the cross-check; none of another answer
 --   noFile i        = the line of file i where it is missing
 --   tooLong i       = the line of file i where it is above the buffer
 use Prim.Native.Nat.{ℕ}
@@ -8,7 +8,7 @@ use mathlib.Core.List.{List, [], _∷_, _++_}
 use Rattle.rules.specs.Text.{bytes}
 use Rattle.rules.specs.Lines.{letter}
 use Rattle.rules.specs.Plan.{№}
-use Rattle.rules.specs.Check.{Answer, accepted, refusal, trace, channel, highest, headerLine, noTrace}
+use Rattle.rules.specs.Check.{Answer, accepted, refusal, trace, channel, highest, headerLine, noTrace, formed}
 use Rattle.words.specs.Digits.{decimal}
 
 unfoldable pub values : List (List ℕ) → List ℕ
@@ -26,6 +26,7 @@ line (channel c) = []
 line (highest c) = []
 line (headerLine l) = []
 line noTrace = []
+line formed = []
 
 unfoldable pub noFile : ℕ → List ℕ
 noFile i = bytes "NO FILE " ++ (letter i ∷ 10 ∷ [])

@@ -54,7 +54,7 @@ fn refused(n: u8, f: u8, l: u32, c: u8, line: &mut [u8; 120]) -> usize
     text::byte(b'\n', line, g)
 }
 
-// The line of an answer to the set check.
+// The line of an answer to the cross-check.
 fn spell(a: Answer, line: &mut [u8; 120]) -> usize
     ensures added { λ n. ⌜ Adds (now (line .entry)) 0 (lineOf (paper a)) (now (line .exit)) n ⌝ }
     ensures small { λ n. ⌜ n ≤ 114 ⌝ }

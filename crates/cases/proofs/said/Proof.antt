@@ -39,44 +39,44 @@ input-requires-3 c κs = search needs
 size-requires-3 : tie.Need-size-requires-3
 size-requires-3 c κs = search needs
 
-slice-reshare-prefix-check : tie.Need-slice-reshare-prefix-check
-slice-reshare-prefix-check c =
+slice-reshare-prefix-cross : tie.Need-slice-reshare-prefix-cross
+slice-reshare-prefix-cross c =
     let e = c .before .before .before .before .before .before .before .before .before .before .before .before in
     let t = e .before .before .before .before .load in
     omega (arith, fits _ _ _ _ (e .size .ensures) (e .before .input .ensures) (t .ensures .fits), t .kept .1 .0)
 
-slice-aggregate-check : tie.Need-slice-aggregate-check
-slice-aggregate-check c =
+slice-aggregate-cross : tie.Need-slice-aggregate-cross
+slice-aggregate-cross c =
     let e = c .before .before .before .before .before .before .before .before .before .before .before .before .before in
     let t = e .before .before .before .before .load in
     sym (length-take-le _ _ (omega (arith, fits _ _ _ _ (e .size .ensures) (e .before .input .ensures) (t .ensures .fits), t .kept .1 .0)))
 
-slice-reshare-prefix-check-2 : tie.Need-slice-reshare-prefix-check-2
-slice-reshare-prefix-check-2 c =
+slice-reshare-prefix-cross-2 : tie.Need-slice-reshare-prefix-cross-2
+slice-reshare-prefix-cross-2 c =
     let e = c .before .before .before .before .before .before .before in
     let t = e .before .before .before .before .load2 in
     omega (arith, fits _ _ _ _ (e .size2 .ensures) (e .before .input2 .ensures) (t .ensures .fits), t .kept .1 .0)
 
-slice-aggregate-check-2 : tie.Need-slice-aggregate-check-2
-slice-aggregate-check-2 c =
+slice-aggregate-cross-2 : tie.Need-slice-aggregate-cross-2
+slice-aggregate-cross-2 c =
     let e = c .before .before .before .before .before .before .before .before in
     let t = e .before .before .before .before .load2 in
     sym (length-take-le _ _ (omega (arith, fits _ _ _ _ (e .size2 .ensures) (e .before .input2 .ensures) (t .ensures .fits), t .kept .1 .0)))
 
-slice-reshare-prefix-check-3 : tie.Need-slice-reshare-prefix-check-3
-slice-reshare-prefix-check-3 c =
+slice-reshare-prefix-cross-3 : tie.Need-slice-reshare-prefix-cross-3
+slice-reshare-prefix-cross-3 c =
     let e = c .before .before in
     let t = e .before .before .before .before .load3 in
     omega (arith, fits _ _ _ _ (e .size3 .ensures) (e .before .input3 .ensures) (t .ensures .fits), t .kept .1 .0)
 
-slice-aggregate-check-3 : tie.Need-slice-aggregate-check-3
-slice-aggregate-check-3 c =
+slice-aggregate-cross-3 : tie.Need-slice-aggregate-cross-3
+slice-aggregate-cross-3 c =
     let e = c .before .before .before in
     let t = e .before .before .before .before .load3 in
     sym (length-take-le _ _ (omega (arith, fits _ _ _ _ (e .size3 .ensures) (e .before .input3 .ensures) (t .ensures .fits), t .kept .1 .0)))
 
-check-requires : tie.Need-check-requires
-check-requires c κs = search needs
+cross-requires : tie.Need-cross-requires
+cross-requires c κs = search needs
 
 slice-aggregate-verdict : tie.Need-slice-aggregate-verdict
 slice-aggregate-verdict c = search needs
@@ -125,13 +125,13 @@ said-spec =
     load-requires-3
     input-requires-3
     size-requires-3
-    slice-reshare-prefix-check
-    slice-aggregate-check
-    slice-reshare-prefix-check-2
-    slice-aggregate-check-2
-    slice-reshare-prefix-check-3
-    slice-aggregate-check-3
-    check-requires
+    slice-reshare-prefix-cross
+    slice-aggregate-cross
+    slice-reshare-prefix-cross-2
+    slice-aggregate-cross-2
+    slice-reshare-prefix-cross-3
+    slice-aggregate-cross-3
+    cross-requires
     slice-aggregate-verdict
     verdict-requires
     array-share-prefix-line

@@ -47,9 +47,6 @@ returns-3 c =
     let e = says-next _ (says (a .before .before .before .fault .ensures)) (a .if1 .left) later in
     (e .value, (e .written, c .before .before .before .fault3 .ensures .1 .1))
 
-disc-requires : tie.Need-disc-requires
-disc-requires c κs = search needs
-
 part-requires : tie.Need-part-requires
 part-requires c κs = search needs
 
@@ -59,8 +56,8 @@ part-requires-2 c κs = search needs
 part-requires-3 : tie.Need-part-requires-3
 part-requires-3 c κs = search needs
 
-check-requires : tie.Need-check-requires
-check-requires c κs = search needs
+judged-requires : tie.Need-judged-requires
+judged-requires c κs = search needs
 
 verdict-requires : tie.Need-verdict-requires
 verdict-requires c κs = search needs
@@ -72,13 +69,12 @@ returns-4 : tie.Need-returns-4
 unfolding report
 returns-4 c =
     let said = c .before .before .verdict .ensures in
-    let k = c .before .before .before .before .check in
+    let k = c .before .before .before .before .judged in
     let p = c .before .before .before .before .before .before .before .part .ensures in
     let q = c .before .before .before .before .before .before .part2 .ensures in
     let t = c .before .before .before .before .before .part3 .ensures in
-    let h = c .before .before .before .before .before .before .before .before in
-    let v = says-verdict _ (h .disc .ensures) (k .result) _ _ _ _ _ _ _ _ _ (k .ensures) p q t (says said) in
-    let d = h .before in
+    let d = c .before .before .before .before .before .before .before .before in
+    let v = says-verdict (k .result) _ _ _ _ _ _ _ _ _ (k .ensures) p q t (says said) in
     let b = d .before .before .before .before .before in
     let a = b .before .before .before .before .before in
     let last = says-next _ (says (d .before .before .before .fault3 .ensures)) (d .if3 .left) v in
@@ -99,11 +95,10 @@ report-spec =
     fault-requires-3
     same-length-3
     returns-3
-    disc-requires
     part-requires
     part-requires-2
     part-requires-3
-    check-requires
+    judged-requires
     verdict-requires
     same-length-4
     returns-4)

@@ -1,34 +1,21 @@
 -- `form::form` meets its contract. Assumes nothing.
-use Rattle.form.proofs.Laws.{few-lines, goes-on, is-met, stops-at, three-grouped}
-use Rattle.rules.specs.Form.{form}
-use mathlib.Core.Path.{_∙_}
 use borrow.Author.Needs.{needs}
+use Rattle.form.proofs.ByKind.{unknown-kind, known-kind}
 use Rattle.form.proofs.form.Statement.{statement}
 use Rattle.form.proofs.form.Tie as tie
 
-length-fits-requires : tie.Need-length-fits-requires
-length-fits-requires c κs = search needs
-
-enum-told : tie.Need-enum-told
-enum-told c = search needs
+kind-of-requires : tie.Need-kind-of-requires
+kind-of-requires c κs = search needs
 
 returns : tie.Need-returns
-unfolding form
-returns c = stops-at _ _ (c .before .before .length-fits .ensures) (c .enum-told .given .1) _ ∙ three-grouped _ _ _ _
+returns c = unknown-kind _ _ _ (c .before .kind-of .ensures) (c .if1 .taken)
 
-enum-told-2 : tie.Need-enum-told-2
-enum-told-2 c = search needs
-
-lines-fit-requires : tie.Need-lines-fit-requires
-lines-fit-requires c κs = few-lines _ _ (is-met _ _ (c .before .before .length-fits .ensures) (c .enum-told2 .given .1))
+file-fits-requires : tie.Need-file-fits-requires
+file-fits-requires c κs = search needs
 
 returns-2 : tie.Need-returns-2
-unfolding form
 returns-2 c =
-    goes-on _ _ (c .before .before .before .length-fits .ensures) (c .before .enum-told2 .given .1) _ (c .lines-fit .result) (c .lines-fit .ensures)
-    ∙ three-grouped _ _ _ _
+    known-kind _ _ _ (c .before .before .kind-of .ensures) (c .before .if1 .left) (c .file-fits .result) (c .file-fits .ensures)
 
 pub form-spec : {M : Type 1} → statement M
-form-spec =
-    tie.close
-    (tie.spec length-fits-requires enum-told returns enum-told-2 lines-fit-requires returns-2)
+form-spec = tie.close (tie.spec kind-of-requires returns file-fits-requires returns-2)

@@ -29,8 +29,8 @@ returns-2 c =
     (not-false _ (c .before .before .if1 .left)) _
     (c .before .receiver .ensures) (not-true _ (c .if2 .taken))
 
-check-requires : tie.Need-check-requires
-check-requires c κs = search needs
+cross-requires : tie.Need-cross-requires
+cross-requires c κs = search needs
 
 enum-told : tie.Need-enum-told
 enum-told c = search needs
@@ -39,7 +39,7 @@ found-back-requires : tie.Need-found-back-requires
 found-back-requires c κs =
     let b = c .before .before .before in
     let a = b .before .before .before .before .before .before .before .before .before .args in
-    let ok = set-accepted (a .q .how) (a .r .now) (a .s .now) (a .x .now) _ (c .before .before .check .ensures) _ _ _ _ _ (c .enum-told .given .1) in (
+    let ok = set-accepted (a .q .how) (a .r .now) (a .s .now) (a .x .now) _ (c .before .before .cross .ensures) _ _ _ _ _ (c .enum-told .given .1) in (
       in-set (a .q .how) (a .r .now) (a .s .now) (a .x .now) ok,
       (
         sym (b .before .before .before .«record» .ensures) ∙ not-false _ (b .before .before .if1 .left),
@@ -59,7 +59,7 @@ returns-3 c =
     ∙ in-range (a .q .how) (a .r .now) (a .s .now) (a .x .now) (a .tape .now) (a .q .«record») _ _ _ (b .before .before .before .«record» .ensures)
     (not-false _ (b .before .before .if1 .left)) _
     (b .before .receiver .ensures) (not-false _ (b .if2 .left))
-    (set-accepted (a .q .how) (a .r .now) (a .s .now) (a .x .now) _ (c .before .before .before .check .ensures) _ _ _ _ _ (c .before .enum-told .given .1))
+    (set-accepted (a .q .how) (a .r .now) (a .s .now) (a .x .now) _ (c .before .before .before .cross .ensures) _ _ _ _ _ (c .before .enum-told .given .1))
 
 returns-4 : tie.Need-returns-4
 unfolding wayBack
@@ -69,7 +69,7 @@ returns-4 c =
     own-refusal (a .q .how) (a .r .now) (a .s .now) (a .x .now) (a .tape .now) (a .q .«record») _ _ _ (b .before .before .before .«record» .ensures)
     (not-false _ (b .before .before .if1 .left)) _
     (b .before .receiver .ensures) (not-false _ (b .if2 .left)) _
-    (set-refused (a .q .how) (a .r .now) (a .s .now) (a .x .now) _ (c .before .before .before .check .ensures) _ _ _ _ (c .before .i .given .1))
+    (set-refused (a .q .how) (a .r .now) (a .s .now) (a .x .now) _ (c .before .before .before .cross .ensures) _ _ _ _ (c .before .i .given .1))
 
 pub channel-spec : {M : Type 1} → statement M
 channel-spec =
@@ -79,7 +79,7 @@ channel-spec =
     returns
     receiver-requires
     returns-2
-    check-requires
+    cross-requires
     enum-told
     found-back-requires
     enum-known-i

@@ -17,8 +17,8 @@ returns c =
     record-out (a .q .how) (a .r .now) (a .s .now) (a .x .now) (a .tape .now) (a .q .«record») (a .m) (a .n)
     (sym (c .before .«record» .ensures) ∙ not-true _ (c .if1 .taken))
 
-check-requires : tie.Need-check-requires
-check-requires c κs = search needs
+cross-requires : tie.Need-cross-requires
+cross-requires c κs = search needs
 
 enum-known-v : tie.Need-enum-known-v
 enum-known-v c = search needs
@@ -29,7 +29,7 @@ returns-2 c =
     let a = b .before .before .before .before .before .before .before .before .args in
     set-refuses (a .q .how) (a .r .now) (a .s .now) (a .x .now) (a .tape .now) (a .q .«record») (a .m) (a .n)
     (sym (b .before .before .«record» .ensures) ∙ not-false _ (b .before .if1 .left)) _
-    (set-refused (a .q .how) (a .r .now) (a .s .now) (a .x .now) _ (b .check .ensures) _ _ _ _ (c .before .v .given .1))
+    (set-refused (a .q .how) (a .r .now) (a .s .now) (a .x .now) _ (b .cross .ensures) _ _ _ _ (c .before .v .given .1))
 
 enum-told : tie.Need-enum-told
 enum-told c = search needs
@@ -38,7 +38,7 @@ highest-requires : tie.Need-highest-requires
 highest-requires c κs =
     let b = c .before .before in
     let a = b .before .before .before .before .before .before .before .before .args in (
-      in-set (a .q .how) (a .r .now) (a .s .now) (a .x .now) (set-accepted (a .q .how) (a .r .now) (a .s .now) (a .x .now) _ (b .check .ensures) _ _ _
+      in-set (a .q .how) (a .r .now) (a .s .now) (a .x .now) (set-accepted (a .q .how) (a .r .now) (a .s .now) (a .x .now) _ (b .cross .ensures) _ _ _
           _ _ (c .enum-told .given .1)) .relations,
       (sym (b .before .before .«record» .ensures) ∙ not-false _ (b .before .if1 .left)),
     )
@@ -49,7 +49,7 @@ returns-3 c =
     let a = b .before .before .before .before .before .before .before .before .args in
     too-short (a .q .how) (a .r .now) (a .s .now) (a .x .now) (a .tape .now) (a .q .«record») (a .m) (a .n)
     (sym (b .before .before .«record» .ensures) ∙ not-false _ (b .before .if1 .left))
-    (set-accepted (a .q .how) (a .r .now) (a .s .now) (a .x .now) _ (b .check .ensures) _ _ _ _ _ (c .before .before .enum-told .given .1)) _
+    (set-accepted (a .q .how) (a .r .now) (a .s .now) (a .x .now) _ (b .cross .ensures) _ _ _ _ _ (c .before .before .enum-told .given .1)) _
     (c .before .highest .ensures) (first-short _ _ _ (c .if2 .taken))
 
 returns-4 : tie.Need-returns-4
@@ -58,7 +58,7 @@ returns-4 c =
     let a = b .before .before .before .before .before .before .before .before .args in
     too-short (a .q .how) (a .r .now) (a .s .now) (a .x .now) (a .tape .now) (a .q .«record») (a .m) (a .n)
     (sym (b .before .before .«record» .ensures) ∙ not-false _ (b .before .if1 .left))
-    (set-accepted (a .q .how) (a .r .now) (a .s .now) (a .x .now) _ (b .check .ensures) _ _ _ _ _ (c .before .before .before .enum-told .given .1)) _
+    (set-accepted (a .q .how) (a .r .now) (a .s .now) (a .x .now) _ (b .cross .ensures) _ _ _ _ _ (c .before .before .before .enum-told .given .1)) _
     (c .before .before .highest .ensures) (second-short _ _ _ (c .before .if2 .left) (c .if3 .taken))
 
 returns-5 : tie.Need-returns-5
@@ -67,7 +67,7 @@ returns-5 c =
     let a = b .before .before .before .before .before .before .before .before .args in
     says-highest (a .q .how) (a .r .now) (a .s .now) (a .x .now) (a .tape .now) (a .q .«record») (a .m) (a .n)
     (sym (b .before .before .«record» .ensures) ∙ not-false _ (b .before .if1 .left))
-    (set-accepted (a .q .how) (a .r .now) (a .s .now) (a .x .now) _ (b .check .ensures) _ _ _ _ _ (c .before .before .before .enum-told .given .1)) _
+    (set-accepted (a .q .how) (a .r .now) (a .s .now) (a .x .now) _ (b .cross .ensures) _ _ _ _ _ (c .before .before .before .enum-told .given .1)) _
     (c .before .before .highest .ensures) (c .before .if2 .left) (c .if3 .left)
 
 pub judged-spec : {M : Type 1} → statement M
@@ -76,7 +76,7 @@ judged-spec =
     (tie.spec
     record-requires
     returns
-    check-requires
+    cross-requires
     enum-known-v
     returns-2
     enum-told

@@ -28,8 +28,8 @@ returns-2 c =
     (not-false _ (c .before .before .if1 .left)) _
     (channel-on (a .q .how) (a .x .now) (a .channel) _ (c .before .channel .ensures)) (not-true _ (c .if2 .taken))
 
-check-requires : tie.Need-check-requires
-check-requires c κs = search needs
+cross-requires : tie.Need-cross-requires
+cross-requires c κs = search needs
 
 enum-told : tie.Need-enum-told
 enum-told c = search needs
@@ -38,7 +38,7 @@ found-requires : tie.Need-found-requires
 found-requires c κs =
     let b = c .before .before .before .before .before in
     let a = b .before .before .before .before .before .before .before .args in
-    let ok = set-accepted (a .q .how) (a .r .now) (a .s .now) (a .x .now) _ (c .before .before .check .ensures) _ _ _ _ _ (c .enum-told .given .1) in
+    let ok = set-accepted (a .q .how) (a .r .now) (a .s .now) (a .x .now) _ (c .before .before .cross .ensures) _ _ _ _ _ (c .enum-told .given .1) in
     (in-set (a .q .how) (a .r .now) (a .s .now) (a .x .now) ok, sym (b .before .«record» .ensures) ∙ not-false _ (b .if1 .left))
 
 enum-known-i : tie.Need-enum-known-i
@@ -53,7 +53,7 @@ returns-3 c =
     ∙ in-range (a .q .how) (a .r .now) (a .s .now) (a .x .now) (a .tape .now) (a .q .«record») _ _ _ (b .before .before .before .«record» .ensures)
     (not-false _ (b .before .before .if1 .left)) _
     (channel-on (a .q .how) (a .x .now) (a .channel) _ (b .before .channel .ensures)) (not-false _ (b .if2 .left))
-    (set-accepted (a .q .how) (a .r .now) (a .s .now) (a .x .now) _ (c .before .before .before .check .ensures) _ _ _ _ _ (c .before .enum-told .given .1))
+    (set-accepted (a .q .how) (a .r .now) (a .s .now) (a .x .now) _ (c .before .before .before .cross .ensures) _ _ _ _ _ (c .before .enum-told .given .1))
 
 returns-4 : tie.Need-returns-4
 unfolding lookup
@@ -63,7 +63,7 @@ returns-4 c =
     own-refusal (a .q .how) (a .r .now) (a .s .now) (a .x .now) (a .tape .now) (a .q .«record») _ _ _ (b .before .before .before .«record» .ensures)
     (not-false _ (b .before .before .if1 .left)) _
     (channel-on (a .q .how) (a .x .now) (a .channel) _ (b .before .channel .ensures)) (not-false _ (b .if2 .left)) _
-    (set-refused (a .q .how) (a .r .now) (a .s .now) (a .x .now) _ (c .before .before .before .check .ensures) _ _ _ _ (c .before .i .given .1))
+    (set-refused (a .q .how) (a .r .now) (a .s .now) (a .x .now) _ (c .before .before .before .cross .ensures) _ _ _ _ (c .before .i .given .1))
 
 pub trace-spec : {M : Type 1} → statement M
 trace-spec =
@@ -73,7 +73,7 @@ trace-spec =
     returns
     channel-requires
     returns-2
-    check-requires
+    cross-requires
     enum-told
     found-requires
     enum-known-i

@@ -1,7 +1,7 @@
--- `lines::letter` meets its contract. Assumes nothing.
-use Rattle.lines.proofs.Laws.{letter-r, letter-s, letter-x}
-use Rattle.lines.proofs.letter.Statement.{statement}
-use Rattle.lines.proofs.letter.Tie as tie
+-- `lines::letters::letter` meets its contract. Assumes nothing.
+use Rattle.lines.proofs.FileLetters.{letter-r, letter-s, letter-x}
+use Rattle.lines.proofs.letters.letter.Statement.{statement}
+use Rattle.lines.proofs.letters.letter.Tie as tie
 
 returns : tie.Need-returns
 returns c = letter-r _ (c .if1 .taken)

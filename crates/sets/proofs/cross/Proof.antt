@@ -1,10 +1,10 @@
--- `sets::check` meets its contract. Assumes nothing.
+-- `sets::cross` meets its contract. Assumes nothing.
 use Rattle.form.proofs.Laws.{is-broken, is-met}
 use Rattle.sets.proofs.Answers.{judged-across, known-set, refused-codes, refused-forms, refused-heads}
 use Rattle.lines.proofs.Sheets.{rank-same}
 use borrow.Author.Needs.{needs}
-use Rattle.sets.proofs.check.Statement.{statement}
-use Rattle.sets.proofs.check.Tie as tie
+use Rattle.sets.proofs.cross.Statement.{statement}
+use Rattle.sets.proofs.cross.Tie as tie
 
 forms-requires : tie.Need-forms-requires
 forms-requires c κs = search needs
@@ -79,8 +79,8 @@ returns-4 c =
     (is-met _ _ (b .headers-fit .ensures) (h .before .enum-told2 .given .1)) _ (is-met _ _ (h .codes-fit .ensures) (c .before .enum-told3 .given .1))
     (c .answer-across .ensures)
 
-pub check-spec : {M : Type 1} → statement M
-check-spec =
+pub cross-spec : {M : Type 1} → statement M
+cross-spec =
     tie.close
     (tie.spec
     forms-requires

@@ -1,8 +1,8 @@
--- `tables::kind_of` meets its contract. Assumes nothing.
+-- `lines::letters::kind_of` meets its contract. Assumes nothing.
 use native.Mathlib.Omega.{arith}
-use Rattle.tables.proofs.Asked.{kind-r, kind-s, kind-x, kind-none}
-use Rattle.tables.proofs.kind_of.Statement.{statement}
-use Rattle.tables.proofs.kind_of.Tie as tie
+use Rattle.lines.proofs.FileLetters.{kind-r, kind-s, kind-x, kind-none}
+use Rattle.lines.proofs.letters.kind_of.Statement.{statement}
+use Rattle.lines.proofs.letters.kind_of.Tie as tie
 
 returns : tie.Need-returns
 returns c = kind-r _ (c .match .keys1)
