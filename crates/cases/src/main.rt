@@ -1,6 +1,6 @@
 // The sets of the folders that two files list, `names` those of disc files and `tapes` those of tapes, a name to a line: for each its
-// name, a blank and the line of its verdict. Every refusal number of the cross-check has a folder; for 2, which takes 10,000 lines, the buffer
-// of R has room for them and a line more.
+// name, a blank and the line of its verdict, then a line for each of its files that is not well formed by itself. Every refusal number of the
+// cross-check has a folder; for 2, which takes 10,000 lines, the buffer of R has room for them and a line more.
 ghost use mathlib.Core.Path.{_≡_};
 ghost use Prim.Native.Nat.{_≤_};
 ghost use lib.ListN.{length};
@@ -8,6 +8,8 @@ use files::Input;
 use libc::STDOUT_FILENO;
 use lines::Choice;
 use lines::Reading;
+use lines::Verdict;
+use sets::Answer;
 
 // Where the line ends that begins at n.
 fn end(names: &[u8], n: usize) -> usize
@@ -38,15 +40,35 @@ fn path(folder: &[u8], file: &[u8; 8], out: &mut [u8]) -> usize
     n + 8
 }
 
+// The line of an answer.
+fn print(a: Answer) {
+    let mut line = [0u8; 120];
+    let n = words::verdict(a, &mut line);
+    io::write_all(STDOUT_FILENO, &line[..n]);
+}
+
+// The line of a file that is not well formed by itself.
+fn alone(how: Reading, kind: u64, f: &[u8]) {
+    if let Verdict::Refused(n, i, l, c) = form::form(how, kind, f) {
+        io::write_all(STDOUT_FILENO, b"  alone ");
+        print(Answer::Refused(n, i, l, c));
+    }
+}
+
+// The lines of three files.
+fn told(how: Reading, r: &[u8], s: &[u8], x: &[u8]) {
+    print(sets::cross(how, r, s, x));
+    alone(how, b'R' as u64, r);
+    alone(how, b'S' as u64, s);
+    alone(how, b'X' as u64, x);
+}
+
 // The line of the files at three paths, read in one way into lent buffers.
 fn said(how: Reading, r: &[u8], s: &[u8], x: &[u8], a: &mut [u8], b: &mut [u8], c: &mut [u8]) {
     let i = files::size(files::load(r, a).input());
     let j = files::size(files::load(s, b).input());
     let k = files::size(files::load(x, c).input());
-    let v = sets::cross(how, &a[..i], &b[..j], &c[..k]);
-    let mut line = [0u8; 120];
-    let n = words::verdict(v, &mut line);
-    io::write_all(STDOUT_FILENO, &line[..n]);
+    told(how, &a[..i], &b[..j], &c[..k]);
 }
 
 // The line of one folder.

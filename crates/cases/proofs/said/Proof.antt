@@ -39,67 +39,48 @@ input-requires-3 c κs = search needs
 size-requires-3 : tie.Need-size-requires-3
 size-requires-3 c κs = search needs
 
-slice-reshare-prefix-cross : tie.Need-slice-reshare-prefix-cross
-slice-reshare-prefix-cross c =
+slice-reshare-prefix-told : tie.Need-slice-reshare-prefix-told
+slice-reshare-prefix-told c =
     let e = c .before .before .before .before .before .before .before .before .before .before .before .before in
     let t = e .before .before .before .before .load in
     omega (arith, fits _ _ _ _ (e .size .ensures) (e .before .input .ensures) (t .ensures .fits), t .kept .1 .0)
 
-slice-aggregate-cross : tie.Need-slice-aggregate-cross
-slice-aggregate-cross c =
+slice-aggregate-told : tie.Need-slice-aggregate-told
+slice-aggregate-told c =
     let e = c .before .before .before .before .before .before .before .before .before .before .before .before .before in
     let t = e .before .before .before .before .load in
     sym (length-take-le _ _ (omega (arith, fits _ _ _ _ (e .size .ensures) (e .before .input .ensures) (t .ensures .fits), t .kept .1 .0)))
 
-slice-reshare-prefix-cross-2 : tie.Need-slice-reshare-prefix-cross-2
-slice-reshare-prefix-cross-2 c =
+slice-reshare-prefix-told-2 : tie.Need-slice-reshare-prefix-told-2
+slice-reshare-prefix-told-2 c =
     let e = c .before .before .before .before .before .before .before in
     let t = e .before .before .before .before .load2 in
     omega (arith, fits _ _ _ _ (e .size2 .ensures) (e .before .input2 .ensures) (t .ensures .fits), t .kept .1 .0)
 
-slice-aggregate-cross-2 : tie.Need-slice-aggregate-cross-2
-slice-aggregate-cross-2 c =
+slice-aggregate-told-2 : tie.Need-slice-aggregate-told-2
+slice-aggregate-told-2 c =
     let e = c .before .before .before .before .before .before .before .before in
     let t = e .before .before .before .before .load2 in
     sym (length-take-le _ _ (omega (arith, fits _ _ _ _ (e .size2 .ensures) (e .before .input2 .ensures) (t .ensures .fits), t .kept .1 .0)))
 
-slice-reshare-prefix-cross-3 : tie.Need-slice-reshare-prefix-cross-3
-slice-reshare-prefix-cross-3 c =
+slice-reshare-prefix-told-3 : tie.Need-slice-reshare-prefix-told-3
+slice-reshare-prefix-told-3 c =
     let e = c .before .before in
     let t = e .before .before .before .before .load3 in
     omega (arith, fits _ _ _ _ (e .size3 .ensures) (e .before .input3 .ensures) (t .ensures .fits), t .kept .1 .0)
 
-slice-aggregate-cross-3 : tie.Need-slice-aggregate-cross-3
-slice-aggregate-cross-3 c =
+slice-aggregate-told-3 : tie.Need-slice-aggregate-told-3
+slice-aggregate-told-3 c =
     let e = c .before .before .before in
     let t = e .before .before .before .before .load3 in
     sym (length-take-le _ _ (omega (arith, fits _ _ _ _ (e .size3 .ensures) (e .before .input3 .ensures) (t .ensures .fits), t .kept .1 .0)))
 
-cross-requires : tie.Need-cross-requires
-cross-requires c κs = search needs
-
-slice-aggregate-verdict : tie.Need-slice-aggregate-verdict
-slice-aggregate-verdict c = search needs
-
-verdict-requires : tie.Need-verdict-requires
-verdict-requires c κs = search needs
-
-array-share-prefix-line : tie.Need-array-share-prefix-line
-array-share-prefix-line c =
-    let v = c .before .verdict in
-    omega (arith, v .ensures .1 .1, v .kept .1 .0)
-
-slice-aggregate-write-all : tie.Need-slice-aggregate-write-all
-slice-aggregate-write-all c =
-    let v = c .before .before .verdict in
-    sym (length-take-le _ _ (omega (arith, v .ensures .1 .1, v .kept .1 .0)))
-
-write-all-requires : tie.Need-write-all-requires
-write-all-requires c κs = search needs
+told-requires : tie.Need-told-requires
+told-requires c κs = search needs
 
 same-length : tie.Need-same-length
 same-length c =
-    let e = c .before .before .before .before .before .before .before .before .before in
+    let e = c .before .before .before .before in
     let t = e .before .before .before .before .before .before .before .before .before .before .before .before .before .before .before .before .load in
     search (needs, t .kept .1 .0)
 
@@ -125,18 +106,13 @@ said-spec =
     load-requires-3
     input-requires-3
     size-requires-3
-    slice-reshare-prefix-cross
-    slice-aggregate-cross
-    slice-reshare-prefix-cross-2
-    slice-aggregate-cross-2
-    slice-reshare-prefix-cross-3
-    slice-aggregate-cross-3
-    cross-requires
-    slice-aggregate-verdict
-    verdict-requires
-    array-share-prefix-line
-    slice-aggregate-write-all
-    write-all-requires
+    slice-reshare-prefix-told
+    slice-aggregate-told
+    slice-reshare-prefix-told-2
+    slice-aggregate-told-2
+    slice-reshare-prefix-told-3
+    slice-aggregate-told-3
+    told-requires
     same-length
     same-length-2
     same-length-3
