@@ -37,5 +37,3 @@ pub mod Tables
 pub mod ListedSizes
 pub mod Listed
 pub mod Hosts
-pub mod Table
-pub mod TableRequests

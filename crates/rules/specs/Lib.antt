@@ -28,7 +28,6 @@ pub mod Spread
 pub mod Calls
 pub mod Show
 pub mod Hosts
-pub mod SetA
 pub mod MeetsFields
 pub mod MeetsForm
 pub mod MeetsDisc

@@ -6,43 +6,43 @@ use mathlib.Core.Path.{_≡_, refl}
 use mathlib.Core.Bool.{false}
 use mathlib.Core.List.{List, [], _∷_, _++_}
 use lib.IntN.{pos}
 use Rattle.rules.specs.Places
 use Rattle.rules.specs.Plan
 use Rattle.rules.specs.Text
 use Rattle.rules.specs.Numbers
 use Rattle.rules.specs.Kinds
 use Rattle.rules.specs.Layout
 use Rattle.rules.specs.Sheet
 use Rattle.rules.specs.Medium
 use Rattle.rules.specs.Disc
 use Rattle.rules.specs.Tape
 use Rattle.rules.specs.Names
 use Rattle.rules.specs.Lines
 use Rattle.rules.specs.Points
 use Rattle.rules.specs.Relations
 use Rattle.rules.specs.Cover
 use Rattle.rules.specs.Rows
 use Rattle.rules.specs.Form
 use Rattle.rules.specs.Headers
 use Rattle.rules.specs.Codes
 use Rattle.rules.specs.Reaches
 use Rattle.rules.specs.Order
 use Rattle.rules.specs.Check
 use Rattle.rules.specs.Questions
 use Rattle.rules.specs.Lookup
 use Rattle.rules.specs.Tables
 use Rattle.rules.specs.Spread
 use Rattle.rules.specs.Hosts
 use Rattle.rules.specs.Text.{bytes}
 use Rattle.rules.specs.Disc.{file}
 use Rattle.rules.specs.Plan.{№, fileR, fileX}
 use Rattle.rules.specs.Check.{Answer, accepted, refusal, trace, noTrace, cross}
 use Rattle.rules.specs.Lookup.{lookup}
 use Rattle.rules.specs.Layout.{sps93}
 use Rattle.rules.specs.Points.{point}
 use Rattle.rules.specs.Medium.{sheet}
 use Rattle.rules.specs.Tape.{tape}
-use Rattle.rules.specs.SetA.{headers, put, pointLine, rOf, xOf, rA, sA, xA, lineA, relationLine, eof, tapeOf}
+use Rattle.small_sets.specs.SetA.{headers, put, pointLine, rOf, xOf, rA, sA, xA, lineA, relationLine, eof, tapeOf}
 
 abbrev crossA : List ℕ → List ℕ → List ℕ → Answer
 crossA r s x = cross (file r) (file s) (file x)
