@@ -1,5 +1,5 @@
 -- The tests of refusals 24 and 25 say what `MeetsCodes` has in words, and fail where its breaches are.
-use Prim.Native.Nat.{ℕ, suc, _+_, _<_}
+use Prim.Native.Nat.{ℕ, suc, _+_, _*_, _≤_, _<_}
 use native.Mathlib.Omega.{arith}
 use mathlib.Core.Path.{_≡_, refl, sym, subst}
 use mathlib.Core.Logic.{_↔_, Iff·rfl, Iff·trans}
@@ -12,12 +12,13 @@ use Rattle.rules.specs.Kinds.{digit1, ofFamily}
 use Rattle.rules.specs.Layout.{Layout, at}
 use Rattle.rules.specs.Sheet.{Sheet}
 use Rattle.rules.specs.Lines.{isData, heads}
-use Rattle.rules.specs.Codes.{Tables, row, isInstrument, tablesOf, opens, names, named, namedBefore, rule24, usedCode, codeSpan, rule25}
+use Rattle.rules.specs.Text.{same}
+use Rattle.rules.specs.Codes.{Tables, row, many, threeDigits, isInstrument, tablesOf, opens, names, named, namedBefore, rule24, usedCode, codeSpan, rule25}
 use Rattle.rules.specs.MeetsForm.{Data}
 use Rattle.rules.specs.MeetsHeaders.{InHeader}
-use Rattle.rules.specs.MeetsCodes.{CodeOf, FirstRecord, NamesCode, Rule24, Breach24, Named, Uses, Rule25, Breach25}
+use Rattle.rules.specs.MeetsCodes.{CodeOf, Opens, FirstRecord, NamesCode, Rule24, Breach24, Named, Uses, Rule25, Breach25}
 use Rattle.rules.specs.Refuses.{look, lineByLine, by, usedOrder}
-use Rattle.rules.proofs.Tests.{says, and-is, not-is, some-is}
+use Rattle.rules.proofs.Tests.{says, and-is, not-is, eqb-is, pick-is, same-is, some-is}
 use Rattle.rules.proofs.Contrary.{contrary, not-every, not-not}
 use Rattle.rules.proofs.Breach.{Met, Broken}
 use Rattle.rules.proofs.Fields.{family-is}
@@ -40,9 +41,46 @@ pub code-of : (i : ℕ) (c : List ℕ) → (tablesOf i .isCode c ≡ true) ↔ C
 unfolding digit1
 code-of i c = rw (is-code i c) (simp (says, family-is) Iff·rfl)
 
+-- the numbers of first records
+module _ (s : List ℕ) where
+  abbrev numbered : ℕ → ℕ → ℕ → Bool
+  numbered m a d = some m (λ n. same s (threeDigits (a + d * n)))
+
+  open-at : (i : ℕ) → some (many (tablesOf i)) (λ n. same s (threeDigits (tablesOf i .first + tablesOf i .step * n)))
+      ≡ pick (eqb i fileX) (numbered 9 400 20) (pick (eqb i fileR) (numbered 10 600 10) (numbered 10 700 20))
+  unfolding tablesOf pick
+  open-at i = go (eqb i fileX) (eqb i fileR)
+    where
+      of : Bool → Bool → Tables
+      of x r = pick x (row 400 20 560 isInstrument) (pick r (row 600 10 690 (ofFamily i)) (row 700 20 880 (ofFamily i)))
+
+      go : (x r : Bool) → some (many (of x r)) (λ n. same s (threeDigits (of x r .first + of x r .step * n)))
+          ≡ pick x (numbered 9 400 20) (pick r (numbered 10 600 10) (numbered 10 700 20))
+      go true r = refl
+      go false true = refl
+      go false false = refl
+
+  from : (m a d b : ℕ) → ((n : ℕ) → n < m → a + d * n ≤ b) → ((n : ℕ) → a + d * n ≤ b → n < m) → (numbered m a d ≡ true) ↔ Opens a d b s
+  from m a d b f g =
+      let e = some-is m (λ n. same s (threeDigits (a + d * n))) in (
+        λ t. let w = e .0 t in (w .0, f (w .0) (w .1), same-is s _ .0 (w .2)),
+        λ w. e .1 (w .0, g (w .0) (w .1), same-is s _ .1 (w .2)),
+      )
+
+  from-400 : (numbered 9 400 20 ≡ true) ↔ Opens 400 20 560 s
+  from-400 = from 9 400 20 560 (λ n h. omega arith) (λ n h. omega arith)
+
+  from-600 : (numbered 10 600 10 ≡ true) ↔ Opens 600 10 690 s
+  from-600 = from 10 600 10 690 (λ n h. omega arith) (λ n h. omega arith)
+
+  from-700 : (numbered 10 700 20 ≡ true) ↔ Opens 700 20 880 s
+  from-700 = from 10 700 20 880 (λ n h. omega arith) (λ n h. omega arith)
+
 opens-is : (L : Layout) (i : ℕ) (l : List ℕ) → (opens L i l ≡ true) ↔ FirstRecord L i l
 unfolding opens
-opens-is L i l = simp says Iff·rfl
+opens-is L i l =
+    let s = at l (L .headerNumber) in
+    rw (open-at s i) (simp (pick-is, eqb-is, from-400 s, from-600 s, from-700 s) Iff·rfl)
 
 pub names-is : (L : Layout) (i : ℕ) (c l : List ℕ) → (names L i c l ≡ true) ↔ NamesCode L i c l
 unfolding names

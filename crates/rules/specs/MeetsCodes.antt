@@ -1,5 +1,6 @@
 -- Refusals 24 and 25 in words: what each rule says, and what it is to break it.
 --   CodeOf i c          = a code of kind i: receivers and sources a letter of a family and a digit, instruments a digit and a comma
+--   Opens a d b s       = s is one of the numbers a, a + d, a + 2 d, .. b in three digits
 --   FirstRecord L i l   = l is the first record of a table of kind i
 --   NamesCode L i c l   = and c, a code of that kind, stands in columns 33-34
 --   Named r i c         = a header line of R names c
@@ -10,11 +11,11 @@ use Prim.Native.Nat.{ℕ, suc, _+_, _*_, _≤_, _<_}
 use Prim.Native.Char.{code as ascii}
 use mathlib.Core.Path.{_≡_}
 use mathlib.Core.List.{List}
-use Rattle.rules.specs.Plan.{fileX}
+use Rattle.rules.specs.Plan.{fileR, fileX}
 use Rattle.rules.specs.Text.{col}
 use Rattle.rules.specs.Layout.{Layout, at}
 use Rattle.rules.specs.Sheet.{Sheet}
-use Rattle.rules.specs.Codes.{tablesOf, many, threeDigits, usedCode}
+use Rattle.rules.specs.Codes.{threeDigits, usedCode}
 use Rattle.rules.specs.MeetsFields.{Family}
 use Rattle.rules.specs.MeetsForm.{Data}
 use Rattle.rules.specs.MeetsHeaders.{InHeader}
@@ -29,9 +30,14 @@ CodeOf i c =
 
 -- "H600 to H609 is the first receiver code, up to H690; H700 to H719 the first source code, up to H880; H400 to H419 the first instrument code,
 -- up to H560": columns 2-4 are the number of a table's first record
+abbrev pub Opens : ℕ → ℕ → ℕ → List ℕ → Type 0
+Opens a d b s = (n : ℕ) × (a + d * n ≤ b) × (s ≡ threeDigits (a + d * n))
+
 abbrev pub FirstRecord : Layout → ℕ → List ℕ → Type 0
 FirstRecord L i l =
-    (n : ℕ) × (n < many (tablesOf i)) × (at l (L .headerNumber) ≡ threeDigits (tablesOf i .first + tablesOf i .step * n))
+    (i ≡ fileX → Opens 400 20 560 (at l (L .headerNumber)))
+    × ((i ≡ fileX → ⊥)
+    → (i ≡ fileR → Opens 600 10 690 (at l (L .headerNumber))) × ((i ≡ fileR → ⊥) → Opens 700 20 880 (at l (L .headerNumber))))
 
 abbrev pub NamesCode : Layout → ℕ → List ℕ → List ℕ → Type 0
 NamesCode L i c l = CodeOf i c × ((at l (L .headerCode) ≡ c) × FirstRecord L i l)
