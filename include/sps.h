@@ -6,8 +6,9 @@
  * A set is three files: R (receivers), S (shots), X (relations), lines of 80 columns. On disc CR
  * and LF end each line. On tape a line is a record of 80 bytes, code page 037 (EBCDIC), and a
  * record with EOF in columns 1 to 3 ends the file; its other columns hold any bytes. Lines and
- * columns count from 1, and the EOF record is a line. Every call takes the medium of the set first,
- * one of enum sps_medium, then the three files, each as a pointer to its bytes and their number.
+ * columns count from 1, and the EOF record is a line. Every call takes the medium first, one of
+ * enum sps_medium, then the three files, each as a pointer to its bytes and their number; sps_form
+ * takes one file, and its kind before it.
  *
  * A tape is judged as its translation; the order of receivers alone (10) is that of the tape's own
  * bytes, in which letters come before digits. Questions and answers are in ASCII on both media.
@@ -19,14 +20,14 @@
  * with the numbers and files of the enums below; file, line and column are 0 where there is none.
  * It is never below 2^40, and every other answer is: the traces, R line * 16 + component with 2^32
  * more where the receiver is killed, the channel, the highest channel or the header line, and 0
- * where there is none. An accepted set without traces answers 0 too. The inline functions at the
- * end take a number apart.
+ * where there is none. A well-formed file and an accepted set without traces answer 0 too. The
+ * inline functions at the end take a number apart.
  *
  * A refusal is the first breach in this order: a medium that is neither (20, before all else); a
- * question out of range (20); the form of R, then S, then X (1, 2, on tape 29, then 3 to 6 line by
- * line); the headers (7 to 9); the code tables (24, then 25 over R, S and X); the receivers (10);
- * the shots (11, 12); the relations (13, 14, 16 to 19); a shot that none names (15); slices too
- * short (21). It writes nothing.
+ * kind or a question out of range (20); the form of R, then S, then X, or of the one file (1, 2, on
+ * tape 29, then 3 to 6 line by line); the headers (7 to 9); the code tables (24, then 25 over R, S
+ * and X); the receivers (10); the shots (11, 12); the relations (13, 14, 16 to 19); a shot that
+ * none names (15); slices too short (21). It writes nothing.
  *
  * The first records of the code tables in the header name codes in columns 33 and 34: H600, H610,
  * .. H690 those of receivers, H700, H720, .. H880 those of sources, H400, H420, .. H560
@@ -37,8 +38,8 @@
  * holds its channels, and the traces on them are dead. No relation line may name a killed shot
  * (13), and none has to (15).
  *
- * A call takes any bytes and any numbers. The medium and the numbers of a question are 64-bit, so
- * that nothing is cut before it is judged.
+ * A call takes any bytes and any numbers. The medium, the kind and the numbers of a question are
+ * 64-bit, so that nothing is cut before it is judged.
  *
  * What the host keeps
  *
@@ -60,7 +61,7 @@
 extern "C" {
 #endif
 
-/* What the three files of a set are written on. */
+/* What the files are written on. */
 enum sps_medium {
     SPS_DISC = 1,
     SPS_TAPE = 2
@@ -90,7 +91,7 @@ enum sps_number {
     SPS_CHANNEL_ORDER = 17,    /* the channels of a record do not ascend */
     SPS_NO_RECEIVER = 18,      /* a covered receiver is not there */
     SPS_COVERED_TWICE = 19,    /* a receiver is covered twice in a record */
-    SPS_QUESTION_RANGE = 20,   /* a question is out of range, or the medium is neither */
+    SPS_QUESTION_RANGE = 20,   /* a medium, a kind or a question is out of range */
     SPS_SLICE_LENGTH = 21,     /* a slice of the spread table is too short */
     SPS_CODE_NAMED_TWICE = 24, /* a code table names a code that an earlier one names */
     SPS_CODE_NOT_NAMED = 25,   /* a code or an instrument is used that no code table names */
@@ -105,11 +106,28 @@ enum sps_file {
     SPS_X = 3
 };
 
+/* The kinds of files, by their letters. */
+enum sps_file_kind {
+    SPS_KIND_R = 82,
+    SPS_KIND_S = 83,
+    SPS_KIND_X = 88
+};
+
 /*
- * Checks a set. Answers the number of its traces, which are the channels of all relation lines, or
- * a refusal, 1 to 19, 24, 25 or 29, and 20 for the medium.
+ * The form of one file, which needs no other. Answers 0 where the file is well formed, or a
+ * refusal, 1 to 6 or 29, in the file of its kind, and 20 for the medium or the kind.
+ *
+ * The kind is one of enum sps_file_kind. It is what the file has to be, and is not taken from it:
+ * the first data line of another kind is refused with 4.
  */
-uint64_t sps_check(uint64_t medium, const uint8_t *r, size_t r_len, const uint8_t *s,
+uint64_t sps_form(uint64_t medium, uint64_t kind, const uint8_t *file, size_t file_len);
+
+/*
+ * The cross-check of three files: first the form of each, whether sps_form was asked before or not,
+ * then all rules between them. Answers the number of traces of the set, which are the channels of
+ * all relation lines, or a refusal, 1 to 19, 24, 25 or 29, and 20 for the medium.
+ */
+uint64_t sps_cross(uint64_t medium, const uint8_t *r, size_t r_len, const uint8_t *s,
                    size_t s_len, const uint8_t *x, size_t x_len);
 
 /* The places of the counts. */
@@ -122,7 +140,8 @@ enum sps_place {
 };
 
 /*
- * Checks a set, and counts what it holds. Answers what sps_check does, for every length of counts.
+ * The cross-check that also counts what the set holds. Answers what sps_cross does, for every
+ * length of counts.
  *
  * A place of counts is eight bytes, the low one first; sps_count reads one. Of an accepted set the
  * receivers, shots, relation lines, traces and dead traces go into places 0 to 4, as far as counts

@@ -47,12 +47,12 @@ static void counts(struct set set, size_t len, uint64_t expected, size_t places,
     free(bytes);
 }
 
-/* The check, and the counts in slices of each length, of which so many places are written. */
+/* The cross-check, and the counts in slices of each length, of which so many places are written. */
 static void answers(struct set set, uint64_t expected, size_t places, const uint8_t *held)
 {
     static const size_t lengths[] = {0, 7, 8, 15, 16, 31, 32, 33, 39, 40, 41, 47, 48};
     size_t at;
-    SAME(sps_check(FILES(set)), expected);
+    SAME(sps_cross(FILES(set)), expected);
     for (at = 0; at < sizeof lengths / sizeof *lengths; at++) {
         size_t whole = lengths[at] / 8;
         counts(set, lengths[at], expected, whole < places ? whole : places, held);
@@ -195,7 +195,7 @@ static void edits(struct set set)
     refused(cut, refusal(SPS_FILE_LENGTH, SPS_R, 1, 0));
 
     put(set.x, FIRST, 43, "   4");
-    answer = sps_check(FILES(set));
+    answer = sps_cross(FILES(set));
     SAME(sps_is_refused(answer), 1);
     SAME(sps_refusal_number(answer), SPS_CHANNELS);
     SAME(sps_refusal_file(answer), SPS_X);

@@ -37,9 +37,9 @@ struct Set {
     std::uint64_t medium;
     Bytes r, s, x;
 
-    std::uint64_t check() const
+    std::uint64_t cross() const
     {
-        return sps_check(medium, r.data(), r.size(), s.data(), s.size(), x.data(), x.size());
+        return sps_cross(medium, r.data(), r.size(), s.data(), s.size(), x.data(), x.size());
     }
     std::uint64_t counts(Bytes &counts) const
     {
@@ -93,7 +93,7 @@ void answers(const Set &set)
     Bytes lines(9, 0xEE), components(4, 0xEE);
     const Bytes written = {FIRST, 0, SECOND, 0, THIRD, 0, 0xEE, 0xEE, 0xEE}, ones = {1, 1, 1, 0xEE};
 
-    same("the check", set.check(), 3u);
+    same("the cross-check", set.cross(), 3u);
     for (std::size_t length : {0, 7, 8, 15, 16, 31, 32, 33, 39, 40, 41, 48}) {
         Bytes counts(length, 0xAA);
         same("the answer with counts", set.counts(counts), 3u);
@@ -158,8 +158,8 @@ void media(Set set)
     const Set disc = {SPS_DISC, {}, {}, {}}, tape = {SPS_TAPE, {}, {}, {}};
     Bytes counts(32, 0xAA);
     const Bytes stays = counts;
-    same("an empty set on disc", sps_refusal_number(disc.check()), SPS_HEADER_TYPE);
-    same("an empty set on tape", sps_refusal_number(tape.check()), SPS_TAPE_END);
+    same("an empty set on disc", sps_refusal_number(disc.cross()), SPS_HEADER_TYPE);
+    same("an empty set on tape", sps_refusal_number(tape.cross()), SPS_TAPE_END);
     for (std::uint64_t medium : {UINT64_C(0), UINT64_C(3), UINT64_C(0x100000001), UINT64_MAX}) {
         set.medium = medium;
         same("another medium", sps_refusal_number(set.counts(counts)), SPS_QUESTION_RANGE);

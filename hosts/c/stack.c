@@ -17,14 +17,14 @@ static uint8_t lines[19998], components[9999];
 struct answers {
     struct set set;
     uint64_t record;
-    uint64_t check, counts, trace, channel, spread, table_line;
+    uint64_t cross, counts, trace, channel, spread, table_line;
 };
 
 static void *ask(void *lent)
 {
     struct answers *to = (struct answers *)lent;
     uint8_t counts[40];
-    to->check = sps_check(FILES(to->set));
+    to->cross = sps_cross(FILES(to->set));
     to->counts = sps_counts(FILES(to->set), counts, sizeof counts);
     to->trace = sps_trace(FILES(to->set), tape, 6, to->record, 200);
     to->channel = sps_channel(FILES(to->set), tape, 6, to->record, 9999, 1);
@@ -52,7 +52,7 @@ int main(int count, char **words)
         fprintf(stderr, "no thread of %d bytes of stack\n", STACK);
         return 2;
     }
-    printf("%llu %llu %llu %llu %llu %llu\n", (unsigned long long)to.check,
+    printf("%llu %llu %llu %llu %llu %llu\n", (unsigned long long)to.cross,
            (unsigned long long)to.counts, (unsigned long long)to.trace,
            (unsigned long long)to.channel, (unsigned long long)to.spread,
            (unsigned long long)to.table_line);

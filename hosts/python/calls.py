@@ -25,7 +25,7 @@ def library(path):
     """The six calls with their types."""
     sps = ctypes.CDLL(path)
     types = {
-        "sps_check": [],
+        "sps_cross": [],
         "sps_counts": BYTES,
         "sps_trace": RECORD + [U64],
         "sps_channel": RECORD + [U64, U64],
@@ -54,7 +54,7 @@ def answers(sps, set_a):
     """What set A is answered."""
     record = [b"100   ", 6, 11]
     counts = (ctypes.c_uint8 * 41)(*[170] * 41)
-    assert sps.sps_check(*set_a) == 3
+    assert sps.sps_cross(*set_a) == 3
     assert sps.sps_counts(*set_a, counts, 41) == 3
     assert bytes(counts) == struct.pack("<5QB", 3, 1, 1, 3, 0, 170)
     assert sps.sps_trace(*set_a, *record, 2) == SECOND * 16 + 1
@@ -76,7 +76,7 @@ def killed(sps, asked):
     """Three components of each receiver, of which the second is killed."""
     record = [b"100   ", 6, 11]
     counts = (ctypes.c_uint8 * 40)()
-    assert sps.sps_check(*asked) == 9
+    assert sps.sps_cross(*asked) == 9
     assert sps.sps_counts(*asked, counts, 40) == 9
     assert bytes(counts) == struct.pack("<5Q", 3, 2, 1, 9, 3)
     short = (ctypes.c_uint8 * 39)(*[170] * 39)
@@ -102,10 +102,10 @@ def refusals(sps, set_a, last):
     assert sps.sps_counts(*cut, counts, 40) == refusal(1, 1, last, 0)
     for other in (0, 3, 2**32 + 1, 2**64 - 1):
         assert sps.sps_counts(other, *set_a[1:], counts, 40) == refusal(20, 0, 0, 0)
-        assert sps.sps_check(other, *cut[1:]) == refusal(20, 0, 0, 0)
+        assert sps.sps_cross(other, *cut[1:]) == refusal(20, 0, 0, 0)
     assert bytes(counts) == bytes([170] * 40)
-    assert sps.sps_check(DISC, None, 0, None, 0, None, 0) == refusal(7, 1, 1, 0)
-    assert sps.sps_check(TAPE, None, 0, None, 0, None, 0) == refusal(29, 1, 1, 0)
+    assert sps.sps_cross(DISC, None, 0, None, 0, None, 0) == refusal(7, 1, 1, 0)
+    assert sps.sps_cross(TAPE, None, 0, None, 0, None, 0) == refusal(29, 1, 1, 0)
     assert sps.sps_trace(*set_a, b"100", 3, 11, 2) == refusal(20, 0, 0, 0)
     assert sps.sps_trace(*set_a, b"100   ", 6, 2**64 - 1, 2) == refusal(20, 0, 0, 0)
     for kind, code in ((ord("R"), b"V1"), (ord("S"), b"KL"), (ord("X"), b"1,"), (ord("H"), b"G1"), (2**32 + 82, b"G1")):

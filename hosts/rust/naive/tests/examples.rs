@@ -37,7 +37,7 @@ fn no_folder_is_left_over() {
 #[test]
 fn verdicts_are_the_readers() {
     for example in examples() {
-        let (answer, _) = common::answer(&example.set, &Question::Check);
+        let (answer, _) = common::answer(&example.set, &Question::Cross);
         assert_eq!(answer.verdict().as_deref(), Some(example.verdict.as_str()), "{}", example.name);
     }
 }

@@ -8,7 +8,7 @@ pub const STAYS: u8 = 0xEE;
 
 #[derive(Clone, Debug, PartialEq, Eq)]
 pub enum Question {
-    Check,
+    Cross,
     Trace {
         tape: Vec<u8>,
         record: u64,
@@ -80,7 +80,7 @@ pub struct Case {
 impl fmt::Display for Question {
     fn fmt(&self, f: &mut fmt::Formatter) -> fmt::Result {
         match self {
-            Question::Check => write!(f, "check"),
+            Question::Cross => write!(f, "cross-check"),
             Question::Trace { tape, record, channel } => {
                 write!(f, "`{}` {record}, channel {channel}", tape.escape_ascii())
             }

@@ -30,7 +30,7 @@ impl Example {
 
 pub fn examples() -> Vec<Example> {
     let example = |name, set, answer: Answer| {
-        let verdict = answer.verdict().expect("the answer of a check");
+        let verdict = answer.verdict().expect("the answer of a cross-check");
         Example { name, set, verdict }
     };
     vec![

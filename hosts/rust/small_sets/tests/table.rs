@@ -26,11 +26,11 @@ fn every_refusal_is_asked_for() {
     assert!(numbers.into_iter().eq((1..=21).chain([24, 25, 29])));
 }
 
-/// Every case of the set check has a line.
+/// Every case of the cross-check has a line.
 #[test]
-fn checks_have_verdicts() {
+fn cross_checks_have_verdicts() {
     for case in table() {
-        if case.question == Question::Check {
+        if case.question == Question::Cross {
             assert!(case.expected.verdict().is_some(), "{}", case.name);
         }
     }

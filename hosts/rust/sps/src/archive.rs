@@ -17,7 +17,8 @@ pub struct Files<'a> {
 
 mod c {
     unsafe extern "C" {
-        pub fn sps_check(
+        pub fn sps_form(medium: u64, kind: u64, file: *const u8, file_len: usize) -> u64;
+        pub fn sps_cross(
             medium: u64,
             r: *const u8,
             r_len: usize,
@@ -95,9 +96,16 @@ mod c {
     }
 }
 
-pub fn check(Files { medium, r, s, x }: Files) -> u64 {
+pub fn form(medium: u64, kind: u64, file: &[u8]) -> u64 {
+    // SAFETY: the pointer and the length are those of one slice.
+    unsafe { c::sps_form(medium, kind, file.as_ptr(), file.len()) }
+}
+
+/// As C hosts may ask, without counts; the wrapper takes `counts`.
+#[allow(dead_code)]
+pub fn cross(Files { medium, r, s, x }: Files) -> u64 {
     // SAFETY: each pointer and length are those of one slice.
-    unsafe { c::sps_check(medium, r.as_ptr(), r.len(), s.as_ptr(), s.len(), x.as_ptr(), x.len()) }
+    unsafe { c::sps_cross(medium, r.as_ptr(), r.len(), s.as_ptr(), s.len(), x.as_ptr(), x.len()) }
 }
 
 pub fn counts(Files { medium, r, s, x }: Files, counts: &mut [u8]) -> u64 {

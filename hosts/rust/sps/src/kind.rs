@@ -1,5 +1,7 @@
 //! What a code is a code of.
 
+use crate::File;
+
 /// The kinds of codes that the tables of a header name.
 ///
 /// ```
@@ -24,12 +26,13 @@ pub enum Kind {
 }
 
 impl Kind {
-    /// The number that the call takes: the letter of the file that uses the codes.
+    /// The number that the call takes: that of the file that uses the codes.
     pub(crate) fn number(self) -> u64 {
-        match self {
-            Kind::Receiver => b'R'.into(),
-            Kind::Source => b'S'.into(),
-            Kind::Instrument => b'X'.into(),
-        }
+        let file = match self {
+            Kind::Receiver => File::R,
+            Kind::Source => File::S,
+            Kind::Instrument => File::X,
+        };
+        file.number()
     }
 }

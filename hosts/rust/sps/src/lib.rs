@@ -1,16 +1,18 @@
 //! The proved checker of SPS sets, for Rust.
 //!
 //! An SPS set is three files: receivers R, shots S and relations X, lines of 80
-//! columns, on disc or on tape ([`Medium`]). [`Set::check`] accepts a set with its
-//! counts, or refuses it with the first breach of the paper's rules. [`Set::record`]
-//! asks where the traces of a record come from, [`Set::table_line`] which header line
-//! names a code.
+//! columns, on disc or on tape ([`Medium`]). [`form`](form()) accepts one file as what it
+//! is said to be, or refuses it, and [`Set::cross`] three files with their counts; a
+//! refusal is the first breach of the paper's rules. [`Set::record`] asks where the traces
+//! of a record come from, [`Set::table_line`] which header line names a code.
 //!
 //! ```
 //! # let read = |name| std::fs::read(format!("../../../examples/set_a/{name}"));
 //! # let (r, s, x) = (read("set.r01")?, read("set.s01")?, read("set.x01")?);
+//! assert_eq!(sps::form(sps::Medium::Disc, sps::File::R, &r), Ok(()));
+//!
 //! let set = sps::Set::new(sps::Medium::Disc, &r, &s, &x);
-//! assert_eq!(set.check()?.to_string(), "ACCEPTED 3 1 1 3 0");
+//! assert_eq!(set.cross()?.to_string(), "ACCEPTED 3 1 1 3 0");
 //!
 //! let record = set.record(b"100   ", 11);
 //! let trace = record.channel(2)?.expect("a trace");
@@ -29,6 +31,7 @@
 #![warn(missing_docs)]
 
 mod archive;
+mod form;
 mod kind;
 mod medium;
 mod number;
@@ -36,6 +39,7 @@ mod record;
 mod refusal;
 mod set;
 
+pub use form::form;
 pub use kind::Kind;
 pub use medium::Medium;
 pub use number::Number;

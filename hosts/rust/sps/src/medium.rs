@@ -1,14 +1,14 @@
-//! What a set is written on.
+//! What files are written on.
 
-/// What the three files of a set are written on; the caller names it. A refusal has the
-/// same form for both, and a question is asked in ASCII of both.
+/// What the files are written on; the caller names it. A refusal has the same form for both,
+/// and a question is asked in ASCII of both.
 ///
 /// ```
 /// # use sps::{Medium, Set};
 /// # let read = |name| std::fs::read(format!("../../../examples/set_a/{name}"));
 /// # let (r, s, x) = (read("set.r01")?, read("set.s01")?, read("set.x01")?);
-/// assert!(Set::new(Medium::Disc, &r, &s, &x).check().is_ok());
-/// let refusal = Set::new(Medium::Tape, &r, &s, &x).check().unwrap_err();
+/// assert!(Set::new(Medium::Disc, &r, &s, &x).cross().is_ok());
+/// let refusal = Set::new(Medium::Tape, &r, &s, &x).cross().unwrap_err();
 /// assert_eq!(refusal.to_string(), "REFUSED 1 R 28 0");
 /// # Ok::<(), std::io::Error>(())
 /// ```

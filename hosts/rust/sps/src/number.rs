@@ -52,7 +52,7 @@ pub enum Number {
     NoReceiver,
     /// 19: a receiver is covered twice in a record.
     CoveredTwice,
-    /// 20: a question is out of range, or the medium is neither disc nor tape.
+    /// 20: a medium, a kind of file or a question is out of range.
     QuestionRange,
     /// 21: a slice of the spread table is too short.
     SliceLength,
@@ -203,10 +203,11 @@ impl Number {
                 "a covered receiver is covered by an earlier line of the same tape and record"
             }
             QuestionRange => {
-                "the question is out of range: a medium is disc or tape, a tape name is 6 columns \
-                 of bytes 32 to 126 that start with a non-blank, a record is at most 9999, \
-                 a channel and an R line are 1 to 9999, a component is 1 to 9, a code is that of a \
-                 receiver, a source or an instrument, as is asked, and not PM or KL"
+                "the question is out of range: a medium is disc or tape, a file is R, S or X, \
+                 a tape name is 6 columns of bytes 32 to 126 that start with a non-blank, a record \
+                 is at most 9999, a channel and an R line are 1 to 9999, a component is 1 to 9, \
+                 a code is that of a receiver, a source or an instrument, as is asked, and not PM \
+                 or KL"
             }
             SliceLength => "a slice of the spread table is shorter than the record's highest channel",
             CodeNamedTwice => {

@@ -4,7 +4,7 @@ use crate::Number;
 use std::error::Error;
 use std::fmt;
 
-/// One of the three files of a set.
+/// One of the three files of a set, or the kind of a single one.
 ///
 /// ```
 /// # use sps::File;
@@ -20,11 +20,22 @@ pub enum File {
     X,
 }
 
+impl File {
+    /// The number by which a call takes it: its letter.
+    pub(crate) fn number(self) -> u64 {
+        match self {
+            File::R => b'R'.into(),
+            File::S => b'S'.into(),
+            File::X => b'X'.into(),
+        }
+    }
+}
+
 /// The first breach of a rule. Shown, it is the verdict line of the program.
 ///
 /// ```
 /// # use sps::{File, Medium, Number, Refusal, Set};
-/// let refusal = Set::new(Medium::Disc, b"", b"", b"").check().unwrap_err();
+/// let refusal = Set::new(Medium::Disc, b"", b"", b"").cross().unwrap_err();
 /// let Refusal { number, file, line, column } = refusal;
 /// assert_eq!((number, file, line, column), (Number::HeaderType, Some(File::R), 1, 0));
 /// assert_eq!(refusal.to_string(), "REFUSED 7 R 1 0");

@@ -1,4 +1,4 @@
-//! A set, and its check.
+//! A set, and its cross-check.
 
 use crate::archive::{self, Files};
 use crate::refusal::answer;
@@ -11,7 +11,7 @@ use std::fmt;
 /// # let read = |name| std::fs::read(format!("../../../examples/odd_channel/{name}"));
 /// # let (r, s, x) = (read("set.r01")?, read("set.s01")?, read("set.x01")?);
 /// let set = sps::Set::new(sps::Medium::Disc, &r, &s, &x);
-/// match set.check() {
+/// match set.cross() {
 ///     Ok(accepted) => println!("{} traces", accepted.traces),
 ///     Err(refusal) => println!("{refusal}: {}", refusal.number),
 /// }
@@ -47,42 +47,31 @@ impl<'a> Set<'a> {
     /// A set of three files, R, S and X, of any bytes.
     ///
     /// ```
-    /// assert!(sps::Set::new(sps::Medium::Tape, b"", b"", b"").check().is_err());
+    /// assert!(sps::Set::new(sps::Medium::Tape, b"", b"", b"").cross().is_err());
     /// ```
     pub fn new(medium: Medium, r: &'a [u8], s: &'a [u8], x: &'a [u8]) -> Set<'a> {
         Set { files: Files { medium: medium.number(), r, s, x } }
     }
 
-    /// Checks the set: what it holds, or the first breach of the rules 1 to 19, 24, 25 and,
-    /// on tape, 29.
+    /// The cross-check of the three files: what the set holds, or the first breach of the
+    /// rules 1 to 19, 24, 25 and, on tape, 29. It looks at the form of each itself, first R,
+    /// then S, then X, and refuses what [`form`](crate::form()) refuses.
     ///
     /// ```
     /// # let read = |name| std::fs::read(format!("../../../examples/set_a/{name}"));
     /// # let (r, s, x) = (read("set.r01")?, read("set.s01")?, read("set.x01")?);
     /// # use sps::{Medium::Disc, Set};
-    /// let accepted = Set::new(Disc, &r, &s, &x).check()?;
+    /// let accepted = Set::new(Disc, &r, &s, &x).cross()?;
     /// assert_eq!((accepted.receivers, accepted.traces), (3, 3));
-    /// let refusal = Set::new(Disc, &r, &s, &r).check().unwrap_err();
+    /// let refusal = Set::new(Disc, &r, &s, &r).cross().unwrap_err();
     /// assert_eq!(refusal.to_string(), "REFUSED 4 X 25 1");
     /// # Ok::<(), Box<dyn std::error::Error>>(())
     /// ```
-    pub fn check(&self) -> Result<Accepted, Refusal> {
+    pub fn cross(&self) -> Result<Accepted, Refusal> {
         let mut counts = [[0; 8]; 5];
         answer(archive::counts(self.files, counts.as_flattened_mut()))?;
         let [receivers, shots, relations, traces, dead_traces] = counts.map(u64::from_le_bytes);
         Ok(Accepted { receivers, shots, relations, traces, dead_traces })
-    }
-
-    /// Checks the set, and answers its number of traces alone.
-    ///
-    /// ```
-    /// # let read = |name| std::fs::read(format!("../../../examples/three_components/{name}"));
-    /// # let (r, s, x) = (read("set.r01")?, read("set.s01")?, read("set.x01")?);
-    /// assert_eq!(sps::Set::new(sps::Medium::Disc, &r, &s, &x).traces()?, 9);
-    /// # Ok::<(), Box<dyn std::error::Error>>(())
-    /// ```
-    pub fn traces(&self) -> Result<u64, Refusal> {
-        answer(archive::check(self.files))
     }
 
     /// The record of a tape, to ask questions of. The tape is six columns of ASCII,

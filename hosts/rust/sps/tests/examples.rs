@@ -16,18 +16,18 @@ fn printed(example: &str, folder: &str, words: &[&str], well: bool) -> String {
 }
 
 #[test]
-fn check() {
+fn cross() {
     let accepted = "ACCEPTED 3 1 1 3 0\n3 receivers, 1 shots\n1 relation lines, 3 traces\n\
                     0 dead traces\n";
-    assert_eq!(printed("check", "set_a", &[], true), accepted);
-    assert_eq!(printed("check", "set_a_tape", &["--tape"], true), accepted);
+    assert_eq!(printed("cross", "set_a", &[], true), accepted);
+    assert_eq!(printed("cross", "set_a_tape", &["--tape"], true), accepted);
     let third = below(3);
     let refused = format!(
         "REFUSED 10 R {third} 2\nin R, line {third}, column 2\nnumber 10: a receiver is not above \
          the receiver line before it, by line name, point number and index; on tape letters come \
          before digits\n"
     );
-    assert_eq!(printed("check", "unsorted_receivers", &[], true), refused);
+    assert_eq!(printed("cross", "unsorted_receivers", &[], true), refused);
 }
 
 #[test]

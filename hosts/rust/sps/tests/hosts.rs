@@ -138,13 +138,13 @@ fn answers(set: &Set, record: u32) -> String {
     let medium = naive::medium(set.medium as u64).expect("a medium");
     let files = set.files();
     let (mut lines, mut components) = ([0; 9_999], [0; 9_999]);
-    let checked = naive::check(medium, files).host_number();
+    let crossed = naive::check(medium, files).host_number();
     let trace = naive::trace(medium, files, tape, record, 200).host_number();
     let channel = naive::channel(medium, files, tape, record, 9_999, 1).host_number();
     let spread =
         naive::spread(medium, files, tape, record, &mut lines, &mut components).host_number();
     let line = naive::table_line(medium, files, b'R'.into(), b"G1").host_number();
-    format!("{checked} {checked} {trace} {channel} {spread} {line}\n")
+    format!("{crossed} {crossed} {trace} {channel} {spread} {line}\n")
 }
 
 /// Sets of 9,999 lines a file that differ in what has to be sorted and searched, with a
@@ -195,7 +195,7 @@ fn written(name: &str, set: &Set) -> PathBuf {
     folder
 }
 
-/// The archive has the six calls, asks for no more than `memset` and its like, and has
+/// The archive has the seven calls, asks for no more than `memset` and its like, and has
 /// no memory of its own that is written: it allocates and shares nothing.
 #[test]
 fn symbols_of_the_archive() {
@@ -210,8 +210,15 @@ fn symbols_of_the_archive() {
         }
     }
     calls.sort_unstable();
-    let declared =
-        ["sps_channel", "sps_check", "sps_counts", "sps_spread", "sps_table_line", "sps_trace"];
+    let declared = [
+        "sps_channel",
+        "sps_counts",
+        "sps_cross",
+        "sps_form",
+        "sps_spread",
+        "sps_table_line",
+        "sps_trace",
+    ];
     assert_eq!(calls, declared);
 }
 

@@ -23,7 +23,7 @@ pub fn line(set: &Set) -> String {
             counts.receivers, counts.shots, counts.relations, counts.traces, counts.dead_traces
         ),
         Err(refusal) => {
-            let file = refusal.file.expect("a refusal of the set check has a file");
+            let file = refusal.file.expect("a refusal of the cross-check has a file");
             format!("REFUSED {} {file:?} {} {}\n", refusal.number, refusal.line, refusal.column)
         }
     }

@@ -1,4 +1,4 @@
-//! A set for each refusal number of the set check.
+//! A set for each refusal number of the cross-check.
 
 use crate::line::{header, header_with, receiver, relation, shot, Line};
 use crate::place::{below, first, header_line};

@@ -2,9 +2,9 @@
 
 use crate::{set_a, Answer, Case, File, Question, Set, STAYS};
 
-/// A case of the set check.
+/// A case of the cross-check.
 pub fn check(name: impl Into<String>, set: Set, expected: Answer) -> Case {
-    ask(name, set, Question::Check, expected)
+    ask(name, set, Question::Cross, expected)
 }
 
 pub fn ask(name: impl Into<String>, set: Set, question: Question, expected: Answer) -> Case {

@@ -1,10 +1,14 @@
-//! Checks one of the benchmark's sets once, for `hosts/instructions`. The argument is its
-//! name; without one the names are printed.
+//! Cross-checks one of the benchmark's sets once, for `hosts/instructions`. The argument is
+//! its name; without one the names are printed.
 
-#[path = "../../tests/common/wrapped.rs"]
-mod wrapped;
+#[allow(dead_code)]
+#[path = "../../src/archive.rs"]
+mod archive;
 
+use archive::Files;
 use many_sets::large::{measured, FULL};
+use small_sets::Set;
+use sps as _; // It links the archive.
 use std::env;
 use std::process::ExitCode;
 
@@ -17,10 +21,7 @@ fn main() -> ExitCode {
         eprintln!("no set is named `{word}`");
         return ExitCode::FAILURE;
     };
-    let set = make(FULL);
-    match wrapped::wrapped(&set).traces() {
-        Ok(traces) => println!("{traces} traces"),
-        Err(refusal) => println!("{refusal}"),
-    }
+    let Set { medium, r, s, x } = &make(FULL);
+    println!("{}", archive::cross(Files { medium: *medium as u64, r, s, x }));
     ExitCode::SUCCESS
 }

@@ -29,7 +29,7 @@ fn kept(verdict: &Answer) -> Answer {
 fn hold(set: &Set, how: &str) -> Answer {
     let other = backwards::set(set.clone());
     assert!(backwards::set(other.clone()) == *set, "{how}");
-    let verdicts = [set, &other].map(|set| compare(set, &Question::Check));
+    let verdicts = [set, &other].map(|set| compare(set, &Question::Cross));
     assert_eq!(kept(&verdicts[0]), kept(&verdicts[1]), "{how}");
     let [verdict, _] = verdicts;
     verdict
@@ -94,7 +94,7 @@ fn tapes() {
         let set = plain(&mut random);
         let on_tape = |set: Set| set.on_tape().expect("characters of a tape");
         let sets = [set.clone(), backwards::set(set)].map(on_tape);
-        let [one, other] = sets.map(|set| compare(&set, &Question::Check));
+        let [one, other] = sets.map(|set| compare(&set, &Question::Cross));
         assert_eq!(one, other, "a tape");
         one
     });
@@ -102,12 +102,12 @@ fn tapes() {
     assert!(tally.get(&0) > Some(&500) && tally.get(&10) > Some(&20), "{tally:?}");
 }
 
-/// The disc cases of the table that check a set, and the examples.
+/// The disc cases of the cross-check in the table, and the examples.
 #[test]
 fn stated() {
     let mut cases = 0;
-    let checks = table().into_iter().filter(|case| case.question == Question::Check);
-    for case in checks.filter(|case| case.set.medium == Medium::Disc) {
+    let cross_checks = table().into_iter().filter(|case| case.question == Question::Cross);
+    for case in cross_checks.filter(|case| case.set.medium == Medium::Disc) {
         assert_eq!(hold(&case.set, &case.name), case.expected, "{}", case.name);
         cases += 1;
     }

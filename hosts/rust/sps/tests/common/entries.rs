@@ -15,7 +15,7 @@ pub fn proved(set: &Set, question: &Question) -> Vec<(&'static str, Answer)> {
     let files = set;
     let set = wrapped(files);
     match question {
-        Question::Check => vec![("check", told(set.check(), accepted))],
+        Question::Cross => vec![("cross", told(set.cross(), accepted))],
         Question::Trace { tape, record, channel } => {
             vec![("channel", told(set.record(tape, *record).channel(*channel), traced))]
         }

@@ -46,7 +46,7 @@ fn each_byte_of_each_field() {
             for byte in 0..=255 {
                 let how = format!("byte {byte} in {file:?} {line} {column}");
                 let set = tape.clone().byte(file, line, column, byte);
-                let answer = compare(&set, &Question::Check);
+                let answer = compare(&set, &Question::Cross);
                 let Some(&text) = texts.get(&byte) else {
                     let (file, line, column) = (file as u8, line as u32, column as u8);
                     assert_eq!(answer, Answer::Refused { number: 3, file, line, column }, "{how}");
@@ -55,7 +55,7 @@ fn each_byte_of_each_field() {
                 };
                 let disc = disc.clone().byte(file, line, column, text);
                 assert_eq!(disc.on_tape(), Some(set), "{how}");
-                assert_eq!(hold(&disc, &Question::Check, &how), Some(answer), "{how}");
+                assert_eq!(hold(&disc, &Question::Cross, &how), Some(answer), "{how}");
             }
         }
     }

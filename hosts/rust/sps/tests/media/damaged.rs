@@ -24,10 +24,10 @@ fn each_length() {
         let length = a().file(file).len();
         for cut in 0..length {
             let number = if cut % 80 > 0 { 1 } else { 29 };
-            let answer = compare(&a().cut(file, cut), &Question::Check);
+            let answer = compare(&a().cut(file, cut), &Question::Cross);
             assert_eq!(answer, refused(number, file, cut / 80 + 1), "{cut} bytes");
             if cut > 0 && cut <= 160 {
-                let answer = compare(&a().over(file, cut), &Question::Check);
+                let answer = compare(&a().over(file, cut), &Question::Cross);
                 let line = if cut % 80 > 0 { (length + cut) / 80 } else { length / 80 };
                 assert_eq!(answer, refused(number, file, line + 1), "{cut} bytes more");
             }
@@ -40,8 +40,8 @@ fn each_length() {
 fn each_end() {
     for file in File::ALL {
         for record in 1..=after(file) {
-            let early = compare(&a().edit(file, record, |_| end()), &Question::Check);
-            let second = compare(&a().insert(file, record, end()), &Question::Check);
+            let early = compare(&a().edit(file, record, |_| end()), &Question::Cross);
+            let second = compare(&a().insert(file, record, end()), &Question::Cross);
             assert_eq!(second, refused(29, file, record + 1));
             if record < after(file) {
                 assert_eq!(early, refused(29, file, record + 1));
@@ -54,12 +54,12 @@ fn each_end() {
 /// there, and nothing else.
 #[test]
 fn each_byte_of_the_end() {
-    let whole = compare(&a(), &Question::Check);
+    let whole = compare(&a(), &Question::Cross);
     let eof = end().0;
     for column in 1..=80 {
         for byte in 0..=255 {
             let set = a().byte(File::S, after(File::S), column, byte);
-            let answer = compare(&set, &Question::Check);
+            let answer = compare(&set, &Question::Cross);
             if column > 3 || byte == eof[column - 1] {
                 assert_eq!(answer, whole);
             } else {
@@ -79,7 +79,7 @@ fn changed() {
         for _ in 0..=turn % 3 {
             (set, _) = damage(&mut random, set);
         }
-        if let Answer::Refused { number, .. } = compare(&set, &Question::Check) {
+        if let Answer::Refused { number, .. } = compare(&set, &Question::Cross) {
             *numbers.entry(number).or_default() += 1;
         }
     }

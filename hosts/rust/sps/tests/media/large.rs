@@ -14,7 +14,7 @@ fn hostile_sets() {
     for (name, make) in HOSTILE {
         let set = make(2_000).plain();
         for set in [in_order(Medium::Tape, set.clone()).0, set] {
-            let answer = hold(&set, &Question::Check, name).expect("a tape");
+            let answer = hold(&set, &Question::Cross, name).expect("a tape");
             numbers.insert(match answer {
                 Answer::Refused { number, .. } => number,
                 _ => 0,
@@ -29,8 +29,8 @@ fn hostile_sets() {
 fn full_sets() {
     let (_, make) = HOSTILE[0];
     let verdict = |set| {
-        let answer = hold(&set, &Question::Check, "a full set").expect("a tape");
-        answer.verdict().expect("of a check")
+        let answer = hold(&set, &Question::Cross, "a full set").expect("a tape");
+        answer.verdict().expect("of a cross-check")
     };
     assert_eq!(verdict(make(FULL)), "REFUSED 2 R 10000 0\n");
     assert!(verdict(make(FULL - 1)).starts_with("ACCEPTED "));

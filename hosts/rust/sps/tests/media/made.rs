@@ -37,7 +37,7 @@ fn sets() {
         if turn % 2 == 1 {
             (set, how) = damage(&mut random, set);
         }
-        if let Some(answer) = hold(&set.plain(), &Question::Check, how) {
+        if let Some(answer) = hold(&set.plain(), &Question::Cross, how) {
             count(&mut tally, &answer);
         }
     }

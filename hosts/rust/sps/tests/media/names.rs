@@ -23,14 +23,14 @@ fn every_two_characters() {
     for (at, one) in LOWEST_FIRST.chars().enumerate() {
         for (before, other) in LOWEST_FIRST.chars().enumerate() {
             let set = two(column, one, other);
-            let answer = hold(&set, &Question::Check, "two names").expect("a tape");
-            let verdict = answer.verdict().expect("of a check");
+            let answer = hold(&set, &Question::Cross, "two names").expect("a tape");
+            let verdict = answer.verdict().expect("of a cross-check");
             let expected = match at < before {
                 true => "ACCEPTED 2 0 0 0 0\n".to_owned(),
                 false => format!("REFUSED 10 R {} 2\n", below(2)),
             };
             assert_eq!(verdict, expected, "`{one}` and `{other}` in column {column}");
-            differ += usize::from(compare(&set, &Question::Check) != answer);
+            differ += usize::from(compare(&set, &Question::Cross) != answer);
             column = if column == 17 { 3 } else { column + 1 };
         }
     }

@@ -26,7 +26,7 @@ fn answers(files: Files, tape: &[u8], numbers: [u64; 4]) -> [u64; 6] {
     let trace = archive::trace(files, tape, record, channel);
     let back = archive::channel(files, tape, record, r_line, component);
     let line = archive::table_line(files, b'R'.into(), &tape[..tape.len().min(2)]);
-    [archive::check(files), counts, trace, back, spread, line]
+    [archive::cross(files), counts, trace, back, spread, line]
 }
 
 /// Of sound sets and of bad ones, with questions in range and out of it.

@@ -29,5 +29,16 @@ pub fn naive(set: &small_sets::Set) -> Answer {
 }
 
 pub fn proved(set: &small_sets::Set) -> Answer {
-    wrapped(set).check()
+    wrapped(set).cross()
+}
+
+/// The number of an answer, as a C host gets it.
+pub fn number(answer: Answer) -> u64 {
+    match answer {
+        Ok(accepted) => accepted.traces,
+        Err(Refusal { number, file, line, column }) => {
+            let file = file.map_or(0, |file| file as u64 + 1);
+            (number.code() << 40) + (file << 32) + line * 256 + column
+        }
+    }
 }

@@ -3,7 +3,6 @@
 use crate::answers::{naive, proved, Answer};
 use crate::counts::compare_counts;
 use crate::keep::keep;
-use crate::wrapped::wrapped;
 use small_sets::Set;
 
 /// Holds the readers together on a set, and returns what they agree on.
@@ -21,8 +20,6 @@ pub fn compare(set: &Set, how: &str) -> Answer {
 pub fn compare_calls(set: &Set, how: &str) -> Answer {
     let answer = compare(set, how);
     compare_counts(set, answer, 41, how);
-    let traces = wrapped(set).traces();
-    assert_eq!(traces, answer.map(|accepted| accepted.traces), "the traces, {how}");
     answer
 }
 

@@ -1,6 +1,6 @@
 //! The counts in lent bytes: places of eight, the low one first, as many as are whole.
 
-use crate::answers::Answer;
+use crate::answers::{number, Answer};
 use crate::archive::{self, Files};
 use crate::compare::compare;
 use crate::lent::lent;
@@ -29,13 +29,14 @@ pub fn files(Set { r, s, x, .. }: &Set, medium: u64) -> Files<'_> {
     Files { medium, r, s, x }
 }
 
-/// Holds every byte of so many to what the set is answered. The call without counts
-/// answers alike.
+/// Holds every byte of so many to what the set is answered, and the calls with and without
+/// counts to its number.
 pub fn compare_counts(set: &Set, answer: Answer, length: usize, how: &str) {
     let files = files(set, set.medium as u64);
-    let (number, bytes) = lent(STAYS, length, |bytes| archive::counts(files, bytes));
+    let (counts, bytes) = lent(STAYS, length, |bytes| archive::counts(files, bytes));
     assert_eq!(bytes, written(answer, length), "{length} bytes of counts, {how}");
-    assert_eq!(archive::check(files), number, "the call without counts, {how}");
+    let calls = [counts, archive::cross(files)];
+    assert_eq!(calls, [number(answer); 2], "with counts and without, {how}");
 }
 
 /// Counts of one byte, of two and of three, dead traces among them, and refusals.

@@ -32,7 +32,7 @@ fn sound_sets() {
         pointed += u64::from(with[0] > 0 && with[1] == 0);
         let [receivers, shots, relations, traces, dead_traces] = counts;
         let accepted = Answer::Accepted { receivers, shots, relations, traces, dead_traces };
-        assert_eq!(hold(&sets, &Question::Check, "a sound set"), accepted);
+        assert_eq!(hold(&sets, &Question::Cross, "a sound set"), accepted);
         for question in asked(&mut random, &set) {
             let answer = hold(&sets, &question, "a sound set");
             found += u64::from(answer.host_number() > 0);
@@ -69,7 +69,7 @@ fn damaged_sets() {
         let sets = twins(&set);
         let question = random.pick(&KINDS)(&mut random, &set);
         hold(&sets, &question, how);
-        hold(&sets, &Question::Check, how)
+        hold(&sets, &Question::Cross, how)
     });
     let tally = tally(answers);
     for number in [0, 1, 3, 4, 5, 6, 7, 9, 10, 11, 12, 13, 15, 16, 18, 19, 24, 25] {
@@ -87,7 +87,7 @@ fn tapes() {
         for question in asked(&mut random, &set) {
             hold(&sets, &question, "a tape");
         }
-        hold(&sets, &Question::Check, "a tape")
+        hold(&sets, &Question::Cross, "a tape")
     });
     let tally = tally(answers);
     assert!(tally.get(&0) > Some(&500) && tally.get(&10) > Some(&20), "{tally:?}");

@@ -19,7 +19,7 @@ fn each_case() {
 #[test]
 fn each_example() {
     for example in examples().iter().filter(|example| example.set.medium == Medium::Disc) {
-        let answer = hold(&twins(&example.set), &Question::Check, example.name);
+        let answer = hold(&twins(&example.set), &Question::Cross, example.name);
         assert_eq!(answer.verdict().as_deref(), Some(example.verdict.as_str()), "{}", example.name);
     }
 }

@@ -97,7 +97,7 @@ pub fn last_two(text: &str) -> [&str; 2] {
 fn each_number() {
     let folder = folder("each_number");
     let mut numbers = BTreeSet::new();
-    for case in table().into_iter().filter(|case| case.question == Question::Check) {
+    for case in table().into_iter().filter(|case| case.question == Question::Cross) {
         let Answer::Refused { number, file, line, column } = case.expected else { continue };
         let medium = case.set.medium;
         if number != 5 && !numbers.insert((number, medium as u8, column == 0)) {

@@ -1,5 +1,5 @@
 //! The one table through every entry: the naive reader, the proved calls, and the
-//! programs, which have its cases of the set check.
+//! programs, which have its cases of the cross-check.
 
 #[allow(dead_code)]
 #[path = "../../src/archive.rs"]
@@ -28,7 +28,7 @@ use std::process::Command;
 /// The answers of each entry that answers more than verdicts.
 #[test]
 fn each_call() {
-    let (mut checks, mut questions) = (0, 0);
+    let (mut sets, mut questions) = (0, 0);
     for case in table() {
         let (naive, number) = naive_entry::answer(&case.set, &case.question);
         let answers = entries::proved(&case.set, &case.question);
@@ -38,18 +38,18 @@ fn each_call() {
         }
         assert_eq!(number, case.expected.host_number(), "{}", case.name);
         match case.question {
-            Question::Check => checks += 1,
+            Question::Cross => sets += 1,
             _ => questions += 1,
         }
     }
-    assert!(checks > 1_000 && questions > 150, "{checks} checks, {questions} questions");
+    assert!(sets > 1_000 && questions > 150, "{sets} sets, {questions} questions");
 }
 
-/// Each case of the set check through a program, which prints the verdict on the set of
+/// Each case of the cross-check through a program, which prints the verdict on the set of
 /// a folder and takes some of the sets.
 fn entry(name: &str, takes: fn(&Set) -> bool, program: impl Fn(&Path, Medium) -> Vec<u8>) {
     let folder = folder(name);
-    let fits = |case: &Case| case.question == Question::Check && takes(&case.set);
+    let fits = |case: &Case| case.question == Question::Cross && takes(&case.set);
     let mut cases = 0;
     for case in table().into_iter().filter(fits) {
         write(&folder, &case.set);

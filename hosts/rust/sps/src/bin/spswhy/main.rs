@@ -69,7 +69,7 @@ fn judge(medium: Medium, names: [Named; 3]) -> Result<u8, String> {
     let [r, s, x] = &names;
     let files = [r.read(medium)?, s.read(medium)?, x.read(medium)?];
     let [r, s, x] = &files;
-    match Set::new(medium, r, s, x).check() {
+    match Set::new(medium, r, s, x).cross() {
         Ok(accepted) => print(format_args!("{accepted}\n")).map(|()| ACCEPTED),
         Err(refusal) => {
             print(format_args!("{refusal}\n"))?;

@@ -1,7 +1,7 @@
-//! Checks the set in a folder and says what it holds, or what is wrong with it.
+//! Cross-checks the set in a folder and says what it holds, or what is wrong with it.
 //!
-//!     cargo run --example check -- ../../examples/odd_channel
-//!     cargo run --example check -- ../../examples/set_a_tape --tape
+//!     cargo run --example cross -- ../../examples/odd_channel
+//!     cargo run --example cross -- ../../examples/set_a_tape --tape
 
 use sps::{Medium, Set};
 use std::{env, error::Error, fs, path::PathBuf};
@@ -14,7 +14,7 @@ fn main() -> Result<(), Box<dyn Error>> {
     let s = fs::read(folder.join("set.s01"))?;
     let x = fs::read(folder.join("set.x01"))?;
 
-    match Set::new(medium, &r, &s, &x).check() {
+    match Set::new(medium, &r, &s, &x).cross() {
         Ok(accepted) => {
             println!("{accepted}");
             println!("{} receivers, {} shots", accepted.receivers, accepted.shots);

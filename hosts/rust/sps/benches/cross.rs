@@ -1,10 +1,10 @@
-//! How long the proved set check takes beside the naive reader: on surveys of 100,
+//! How long the proved cross-check takes beside the naive reader: on surveys of 100,
 //! 1,000 and 9,999 lines a file, made by `many_sets` from a fixed seed, then on large
 //! sets, one of them on tape too, and on those made to take long. Both give the same
 //! answer at each turn. How the times grow, and whether they keep the limits, comes last.
 //! The tables are Markdown.
 //!
-//! `cargo bench -p sps --bench check -- WORDS` runs the sets that have the words in
+//! `cargo bench -p sps --bench cross -- WORDS` runs the sets that have the words in
 //! their names.
 
 #[allow(dead_code)]
@@ -84,7 +84,7 @@ fn growth(times: &BTreeMap<&str, Times>) {
     }
 }
 
-/// What the proved check is held to. Times differ from run to run, so that nothing ends
+/// What the proved call is held to. Times differ from run to run, so that nothing ends
 /// here where a limit is not met.
 fn limits(times: &BTreeMap<&str, Times>) {
     let [_, (few, _), (many, _)] = SEEDED;
