@@ -1,14 +1,9 @@
 //! Killed points: five counts, and where a killed shot that is named stands.
 
-use crate::of;
+use crate::{media, of};
 use small_sets::place::{below, first};
 use small_sets::File::{R, S, X};
 use small_sets::{examples, relation, set_a, shot, Set};
-
-/// On disc and on tape.
-fn media(set: &Set) -> [Set; 2] {
-    [set.clone(), set.on_tape().expect("characters of a tape")]
-}
 
 #[test]
 fn dead_traces() {

@@ -6,6 +6,7 @@ mod program;
 mod codes;
 mod killed;
 mod large;
+mod one_file;
 mod reasons;
 mod tables;
 mod tapes;
@@ -21,6 +22,11 @@ type Said = (Option<i32>, String, String);
 fn said(output: Output) -> Said {
     let text = |bytes| String::from_utf8(bytes).expect("text");
     (output.status.code(), text(output.stdout), text(output.stderr))
+}
+
+/// A set on disc and on tape.
+fn media(set: &Set) -> [Set; 2] {
+    [set.clone(), set.on_tape().expect("characters of a tape")]
 }
 
 /// What is said of a set.

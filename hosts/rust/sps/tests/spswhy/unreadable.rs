@@ -43,6 +43,7 @@ fn files_that_cannot_be_read() {
             let mut names = NAMES;
             names[at] = name;
             no_verdict(&folder, &names, why);
+            no_verdict(&folder, &["--kind", ["R", "S", "X"][at], name], why);
         }
     }
 }
@@ -68,13 +69,33 @@ fn other_words() {
     no_verdict(&folder, &["set.r01", "set.s01", "set.x01", "--tape"], needed);
 }
 
+/// A kind is a letter and takes one file; where it is none, no file is looked at.
+#[test]
+fn other_kinds() {
+    let folder = prepared("other_kinds");
+    let one = "--kind takes R, S or X, then one file";
+    no_verdict(&folder, &["--kind"], one);
+    no_verdict(&folder, &["--kind", "R"], one);
+    no_verdict(&folder, &["--kind", "set.r01"], one);
+    no_verdict(&folder, &["--kind", "R", "set.r01", "set.s01"], one);
+    no_verdict(&folder, &["--kind", "R", "set.r01", "set.s01", "set.x01"], one);
+    no_verdict(&folder, &["--kind", "R", "--tape", "set.r01"], one);
+    no_verdict(&folder, &["--tape", "--kind", "R"], one);
+    for kind in ["r", "s", "x", "H", "Q", "", "RS", "R ", "82", "1", "--tape", "set.r01"] {
+        let none = format!("a kind is R, S or X, and not {kind:?}");
+        no_verdict(&folder, &["--kind", kind, "set.r01"], &none);
+        no_verdict(&folder, &["--tape", "--kind", kind, "missing"], &none);
+    }
+}
+
 #[test]
 fn help() {
     let folder = folder("help");
     for word in ["--help", "-h"] {
         let (status, help, why) = said(spswhy(&folder, &[word]));
         assert_eq!((status, why.as_str()), (Some(0), ""));
-        assert!(help.starts_with("usage: spswhy [--tape] R S X\n"), "{help}");
+        let usage = "usage: spswhy [--tape] R S X\n       spswhy [--tape] --kind LETTER FILE\n";
+        assert!(help.starts_with(usage), "{help}");
     }
 }
 

@@ -1,16 +1,16 @@
 //! Files that look as if they were of the other medium. The verdict stays.
 
-use crate::files::Named;
+use crate::files::Judged;
 use sps::Medium;
 
 /// A line that names such files, or nothing.
-pub fn like_other(medium: Medium, names: &[Named; 3], files: &[Vec<u8>; 3]) -> String {
+pub fn like_other(medium: Medium, files: &[Judged]) -> String {
     let (looks, what): (fn(&[u8]) -> bool, _) = match medium {
         Medium::Disc => (like_tape, "tape, which --tape judges"),
         Medium::Tape => (like_disc, "disc file, which is judged without --tape"),
     };
-    let others = names.iter().zip(files).filter(|(_, file)| looks(file));
-    let names: Vec<String> = others.map(|(name, _)| name.name().to_string()).collect();
+    let others = files.iter().filter(|file| looks(&file.bytes));
+    let names: Vec<String> = others.map(|file| file.name().to_string()).collect();
     match names.as_slice() {
         [] => String::new(),
         [name] => format!("{name} looks like a {what}\n"),

@@ -1,7 +1,7 @@
-//! Says of three files whether they are an SPS set, and if not, why: the verdict on
-//! standard output, the reason and the line on standard error.
+//! Says of three files whether they are an SPS set, or of one whether it is well formed, and
+//! if not, why: the verdict on standard output, the reason and the line on standard error.
 //!
-//! All it knows of sets is what the proved check says. `files` reads the three files,
+//! All it knows of files and sets is what the proved calls say. `files` reads the files,
 //! `reason` puts a refusal into words, `fields` names the field that a column starts,
 //! `codes` has the families of codes, `tables` what the header names, `shots` the shot that a
 //! relation line names, `text` the characters of a line, `looks` what a file looks like.
@@ -17,20 +17,23 @@ mod shots;
 mod tables;
 mod text;
 
-use files::Named;
-use sps::{Medium, Set};
-use std::ffi::OsString;
+use files::Judged;
+use sps::File::{R, S, X};
+use sps::{Medium, Refusal, Set};
+use std::ffi::{OsStr, OsString};
 use std::fmt::Display;
 use std::io::{self, Write};
 use std::process::ExitCode;
 
 const HELP: &str = "\
 usage: spswhy [--tape] R S X
+       spswhy [--tape] --kind LETTER FILE
 
 Checks the SPS set of the files R (receivers), S (shots) and X (relations), lines of
-80 columns, CR and LF. With --tape the files are tapes: joined records of 80 bytes in
-EBCDIC, code page 037, ended by one with EOF in its first columns. Prints one line on
-standard output:
+80 columns, CR and LF. With --kind it checks the form of one file without the others: the
+letter, R, S or X, says what it has to be, and is never guessed. With --tape the files
+are tapes: joined records of 80 bytes in EBCDIC, code page 037, ended by one with EOF in
+its first columns. Prints one line on standard output, for one file without counts:
 
     ACCEPTED receivers shots relation-lines traces dead-traces
     REFUSED number file line column
@@ -40,7 +43,7 @@ go to standard error; the line of a tape is shown translated. Files that look li
 other medium are named there too, and judged as they are asked to be.
 
 Status 0: accepted. 1: refused. 2: no verdict, since a file could not be read, the
-arguments are not three, or the verdict could not be written.
+arguments are others than these, or the verdict could not be written.
 ";
 
 const ACCEPTED: u8 = 0;
@@ -55,8 +58,9 @@ fn main() -> ExitCode {
     };
     let status = match words {
         [word] if word == "--help" || word == "-h" => print(HELP).map(|()| ACCEPTED),
-        [r, s, x] => judge(medium, [r, s, x].map(Named::new)),
-        _ => Err("three files are needed: R, S and X; --help says more".to_owned()),
+        [word, words @ ..] if word == "--kind" => one_file(medium, words),
+        [r, s, x] => set(medium, r, s, x),
+        _ => Err("three files are needed: R, S and X, or one with --kind; --help says more".into()),
     };
     ExitCode::from(status.unwrap_or_else(|why| {
         say(format_args!("spswhy: {why}\n"));
@@ -64,17 +68,41 @@ fn main() -> ExitCode {
     }))
 }
 
-/// Reads the files, has them checked, and says what comes of it.
-fn judge(medium: Medium, names: [Named; 3]) -> Result<u8, String> {
-    let [r, s, x] = &names;
-    let files = [r.read(medium)?, s.read(medium)?, x.read(medium)?];
+/// Reads one file and has its form checked as that of a kind. The words are those after
+/// `--kind`.
+fn one_file(medium: Medium, words: &[OsString]) -> Result<u8, String> {
+    let [letter, name] = words else {
+        return Err("--kind takes R, S or X, then one file; --help says more".to_owned());
+    };
+    let Some(kind) = [R, S, X].into_iter().find(|kind| *letter == *kind.to_string()) else {
+        return Err(format!("a kind is R, S or X, and not {letter:?}; --help says more"));
+    };
+    let file = Judged::read(medium, kind, name)?;
+    let verdict = sps::form(medium, kind, &file.bytes).map(|()| "ACCEPTED");
+    report(medium, verdict, &[file])
+}
+
+/// Reads three files and has them cross-checked.
+fn set(medium: Medium, r: &OsStr, s: &OsStr, x: &OsStr) -> Result<u8, String> {
+    let read = |kind, name| Judged::read(medium, kind, name);
+    let files = [read(R, r)?, read(S, s)?, read(X, x)?];
     let [r, s, x] = &files;
-    match Set::new(medium, r, s, x).cross() {
+    let verdict = Set::new(medium, &r.bytes, &s.bytes, &x.bytes).cross();
+    report(medium, verdict, &files)
+}
+
+/// Prints a verdict, and says why the files are refused.
+fn report(
+    medium: Medium,
+    verdict: Result<impl Display, Refusal>,
+    files: &[Judged],
+) -> Result<u8, String> {
+    match verdict {
         Ok(accepted) => print(format_args!("{accepted}\n")).map(|()| ACCEPTED),
         Err(refusal) => {
             print(format_args!("{refusal}\n"))?;
-            say(reason::of(medium, &refusal, &names, &files));
-            say(looks::like_other(medium, &names, &files));
+            say(reason::of(medium, &refusal, files));
+            say(looks::like_other(medium, files));
             Ok(REFUSED)
         }
     }

@@ -2,7 +2,7 @@
 
 use crate::codes;
 use crate::fields::{field, Field, CODE};
-use crate::files::{width, Named};
+use crate::files::{width, Judged};
 use crate::shots;
 use crate::tables;
 use crate::text::shown;
@@ -11,27 +11,28 @@ use sps::{File, Medium, Number, Refusal};
 /// The bytes of a line that are columns of text.
 const COLUMNS: usize = 80;
 
-/// The place, the reason, and the line with a mark under the column.
-pub fn of(medium: Medium, refusal: &Refusal, names: &[Named; 3], files: &[Vec<u8>; 3]) -> String {
+/// The place, the reason, and the line with a mark under the column. The files are those that
+/// are judged, one, or R, S and X.
+pub fn of(medium: Medium, refusal: &Refusal, files: &[Judged]) -> String {
     let Refusal { number, file, line, column } = *refusal;
     let reason = format!("refused with {}: {number}\n", number.code());
-    let Some(file) = file else {
+    let Some(judged) = files.iter().find(|judged| Some(judged.kind) == file) else {
         return reason;
     };
-    let name = names[file as usize].name();
+    let name = judged.name();
     let place = match column {
         0 => format!("{name}, line {line}\n"),
         _ => format!("{name}, line {line}, column {column}\n"),
     };
-    let line = match (column as usize, text_of(medium, &files[file as usize], line)) {
+    let line = match (column as usize, text_of(medium, &judged.bytes, line)) {
         (0, _) => "no line is shown: the breach is of no column\n".to_owned(),
         (_, None) => "no line is shown: it is beyond the end of the file\n".to_owned(),
         (column, Some(text)) => {
-            let told = match number {
-                Number::CodeNamedTwice => tables::earlier(medium, &files[0], line),
-                Number::CodeNotNamed => tables::rows(medium, &files[0], file),
-                Number::NoShot => shots::killed(medium, &names[1], &files[1], &text),
-                _ => rule(number, file, &text, column),
+            let told = match (number, files) {
+                (Number::CodeNamedTwice, [r, ..]) => tables::earlier(medium, &r.bytes, line),
+                (Number::CodeNotNamed, [r, ..]) => tables::rows(medium, &r.bytes, judged.kind),
+                (Number::NoShot, [_, s, _]) => shots::killed(medium, s, &text),
+                _ => rule(number, judged.kind, &text, column),
             };
             told + &marked(&text, column)
         }

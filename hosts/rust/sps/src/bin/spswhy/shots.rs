@@ -1,6 +1,6 @@
 //! The shot that a relation line names.
 
-use crate::files::{width, Named};
+use crate::files::{width, Judged};
 use crate::text::shown;
 use sps::Medium;
 
@@ -18,14 +18,14 @@ fn place(columns: &[u8]) -> Option<Place<'_>> {
 }
 
 /// Where the source of a relation line stands in S, if it is a killed shot.
-pub fn killed(medium: Medium, name: &Named, s: &[u8], relation: &[u8]) -> String {
+pub fn killed(medium: Medium, s: &Judged, relation: &[u8]) -> String {
     let Some(source) = relation.get(13..38).and_then(place) else { return String::new() };
-    let lines = s.chunks_exact(width(medium)).map(|line| shown(medium, line));
+    let lines = s.bytes.chunks_exact(width(medium)).map(|line| shown(medium, line));
     let is_it = |text: &[u8]| {
         text.starts_with(b"S") && text[26..28] == *b"KL" && place(&text[1..26]) == Some(source)
     };
     match (1..).zip(lines).find(|(_, text)| is_it(text)) {
-        Some((line, _)) => format!("the shot is killed: {}, line {line}\n", name.name()),
+        Some((line, _)) => format!("the shot is killed: {}, line {line}\n", s.name()),
         None => String::new(),
     }
 }
