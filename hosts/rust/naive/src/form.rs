@@ -1,7 +1,7 @@
 //! The form of one file: 1, 2, on tape 29, then line by line 3, 4, 5 and 6.
 
 use crate::lines::{columns, cut};
-use crate::{header, Fault, File, Line, Medium, Refusal};
+use crate::{header, point, relation, Fault, File, Line, Medium, PointLine, Refusal, Relation};
 
 /// A well-formed file: its header block, then its data lines as they are read.
 pub struct Form<T> {
@@ -15,9 +15,23 @@ enum Read<T> {
     Data(T),
 }
 
+impl Form<PointLine> {
+    /// The form of R or S.
+    pub fn points(medium: Medium, file: File, bytes: &[u8]) -> Result<Self, Refusal> {
+        Form::of(medium, file, bytes, |line| point::read(file, line))
+    }
+}
+
+impl Form<Relation> {
+    /// The form of X.
+    pub fn relations(medium: Medium, bytes: &[u8]) -> Result<Self, Refusal> {
+        Form::of(medium, File::X, bytes, relation::read)
+    }
+}
+
 impl<T> Form<T> {
     /// Reads a file whose data lines start with its letter and are read by `read`.
-    pub fn of(
+    fn of(
         medium: Medium,
         file: File,
         bytes: &[u8],
@@ -52,17 +66,9 @@ fn one<T>(
     if line[0] == b'H' && header_allowed {
         header::read(&line)?;
         Ok(Read::Header(line))
-    } else if line[0] == letter(file) {
+    } else if line[0] == file.letter() {
         read(&line).map(Read::Data)
     } else {
         Err(Fault { number: 4, column: 1 })
-    }
-}
-
-fn letter(file: File) -> u8 {
-    match file {
-        File::R => b'R',
-        File::S => b'S',
-        File::X => b'X',
     }
 }

@@ -12,7 +12,8 @@ pub fn medium(number: u64) -> Result<Medium, Refusal> {
     }
 }
 
-/// The number of an answer; an accepted set without traces and "none" are 0.
+/// The number of an answer; a well-formed file, an accepted set without traces and "none"
+/// are 0.
 pub trait HostNumber {
     fn host_number(&self) -> u64;
 }
@@ -29,6 +30,13 @@ impl HostNumber for Refusal {
             + (file << 32)
             + u64::from(self.line) * 256
             + u64::from(self.column)
+    }
+}
+
+/// A well-formed file.
+impl HostNumber for () {
+    fn host_number(&self) -> u64 {
+        0
     }
 }
 

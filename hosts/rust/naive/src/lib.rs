@@ -1,5 +1,6 @@
-//! A naive reader of SPS sets: the second opinion on the set check, the two
-//! lookups, the spread table, the lines of code tables and the showing of a line.
+//! A naive reader of SPS sets: the second opinion on the form of one file, the cross-check
+//! of three, the two lookups, the spread table, the lines of code tables and the showing of
+//! a line.
 //!
 //! It is written from the paper alone and shares neither code nor definitions
 //! with the proved checker. It answers every input, of any length and bytes.
@@ -7,9 +8,9 @@
 //! The way of the data: `lines` cuts a file (1 to 3) and `tape` gives the records of
 //! a tape in ASCII (3 and 29), `fields` reads one field and `codes` lists the codes of
 //! points, `point`, `relation` and `header` read one line (5 and 6), `form` puts a whole
-//! file together (1 to 6), `set` compares the three files (7 to 19) and counts, `tables`
-//! has the codes that the header names (24 and 25), `traces` answers questions of an
-//! accepted set (20 and 21). `show` and `host` stand apart.
+//! file of a kind together (1 to 6), `set` compares the three files (7 to 19) and counts,
+//! `tables` has the codes that the header names (24 and 25), `traces` answers questions of
+//! an accepted set (20 and 21). `show` and `host` stand apart.
 
 #![forbid(unsafe_code)]
 
@@ -33,12 +34,30 @@ pub use point::{Marker, Place, Point, PointLine};
 pub use relation::Relation;
 pub use show::show;
 
+use form::Form;
+
 /// One of the three files, by its letter.
 #[derive(Clone, Copy, Debug, PartialEq, Eq)]
 pub enum File {
     R,
     S,
     X,
+}
+
+impl File {
+    fn letter(self) -> u8 {
+        match self {
+            File::R => b'R',
+            File::S => b'S',
+            File::X => b'X',
+        }
+    }
+
+    /// The file of a letter in a question; any other letter is 20.
+    fn asked(letter: u64) -> Result<File, Refusal> {
+        let is_it = |file: &File| u64::from(file.letter()) == letter;
+        [File::R, File::S, File::X].into_iter().find(is_it).ok_or(traces::placeless(20))
+    }
 }
 
 /// What the three files of a set are written on.
@@ -100,7 +119,15 @@ fn refusal(number: u8, file: File, line: u32, column: u8) -> Refusal {
     Fault { number, column }.at(file, line)
 }
 
-/// Checks a set and counts what it holds.
+/// Checks the form of one file, which is R, S or X as the letter says.
+pub fn form(medium: Medium, letter: u64, file: &[u8]) -> Result<(), Refusal> {
+    match File::asked(letter)? {
+        File::X => Form::relations(medium, file).map(drop),
+        kind => Form::points(medium, kind, file).map(drop),
+    }
+}
+
+/// Checks the form of three files, compares them, and counts what the set holds.
 pub fn check(medium: Medium, files: Files) -> Result<Counts, Refusal> {
     set::read(medium, files).map(|set| set.counts)
 }

@@ -2,7 +2,7 @@
 
 use crate::form::Form;
 use crate::tables::Tables;
-use crate::{header, point, refusal, relation, tape};
+use crate::{header, refusal, tape};
 use crate::{Counts, Fault, File, Files, Medium, Place, Point, PointLine, Refusal, Relation};
 use std::collections::{HashMap, HashSet};
 
@@ -27,9 +27,9 @@ pub struct Set {
 
 /// Reads and checks a set.
 pub fn read(medium: Medium, [r, s, x]: Files) -> Result<Set, Refusal> {
-    let r = Form::of(medium, File::R, r, |line| point::read(File::R, line))?;
-    let s = Form::of(medium, File::S, s, |line| point::read(File::S, line))?;
-    let x = Form::of(medium, File::X, x, relation::read)?;
+    let r = Form::points(medium, File::R, r)?;
+    let s = Form::points(medium, File::S, s)?;
+    let x = Form::relations(medium, x)?;
     header::check(&r.headers, &s.headers, &x.headers)?;
     let tables = Tables::read(&r.headers)?;
     tables.name_all(&r, &s, &x)?;

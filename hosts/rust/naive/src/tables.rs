@@ -39,13 +39,10 @@ impl Code {
 
     /// The code of a question by the letter of its kind, or 20.
     pub fn asked(letter: u64, code: &[u8]) -> Result<Code, Refusal> {
-        const R: u64 = b'R' as u64;
-        const S: u64 = b'S' as u64;
-        const X: u64 = b'X' as u64;
-        let found = match (letter, code) {
-            (R, &[letter, digit]) => Code::of(Receiver, [letter, digit]),
-            (S, &[letter, digit]) => Code::of(Source, [letter, digit]),
-            (X, &[digit]) => Code::of(Instrument, [digit, b',']),
+        let found = match (File::asked(letter)?, code) {
+            (File::R, &[letter, digit]) => Code::of(Receiver, [letter, digit]),
+            (File::S, &[letter, digit]) => Code::of(Source, [letter, digit]),
+            (File::X, &[digit]) => Code::of(Instrument, [digit, b',']),
             _ => None,
         };
         found.ok_or(placeless(20))

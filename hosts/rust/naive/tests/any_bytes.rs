@@ -1,7 +1,7 @@
 //! Any bytes of any length get an answer, and every refusal has a place that
 //! its rule can name.
 
-use naive::{channel, show, spread, table_line, trace, Counts, File, Refusal};
+use naive::{channel, form, show, spread, table_line, trace, Counts, File, Refusal};
 use small_sets::place::{below, first, header_line, last_header};
 use small_sets::{set_a, tape, Medium, Random, Set};
 use std::collections::BTreeSet;
@@ -46,9 +46,17 @@ fn lent(set: &Set) -> (naive::Medium, naive::Files<'_>) {
     (naive::medium(set.medium as u64).expect("a medium"), set.files())
 }
 
+/// Checks a set. Where the form of one of its files is refused, so is the set, for the first of
+/// them; where none is, the set is refused for no matter of form.
 fn check(set: &Set) -> Result<Counts, Refusal> {
     let (medium, files) = lent(set);
-    naive::check(medium, files)
+    let verdict = naive::check(medium, files);
+    let mut kinds = files.into_iter().zip(FILES.map(small_sets::File::kind));
+    match kinds.try_for_each(|(file, kind)| form(medium, kind, file)) {
+        Err(refusal) => assert_eq!(verdict, Err(refusal)),
+        Ok(()) => assert!(!verdict.is_err_and(|of| matches!(of.number, 1..=6 | 29)), "{verdict:?}"),
+    }
+    verdict
 }
 
 fn hold(set: &Set, refusal: Refusal) {

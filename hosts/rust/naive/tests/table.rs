@@ -48,5 +48,5 @@ macro_rules! sections {
 
 sections! {
     paper files headers points decimals markers relations order records covers backwards code_tables
-    killed questions pairs_of_form pairs_of_set answers tapes
+    killed questions pairs_of_form pairs_of_set answers tapes forms
 }

@@ -8,6 +8,11 @@ pub const STAYS: u8 = 0xEE;
 
 #[derive(Clone, Debug, PartialEq, Eq)]
 pub enum Question {
+    /// The form of one of the files, as a kind: the letter R, S or X, as its byte.
+    Form {
+        file: File,
+        kind: u64,
+    },
     Cross,
     Trace {
         tape: Vec<u8>,
@@ -36,6 +41,8 @@ pub enum Question {
 
 #[derive(Clone, Debug, PartialEq, Eq)]
 pub enum Answer {
+    /// One file is well formed.
+    Formed,
     Accepted {
         receivers: u64,
         shots: u64,
@@ -80,6 +87,7 @@ pub struct Case {
 impl fmt::Display for Question {
     fn fmt(&self, f: &mut fmt::Formatter) -> fmt::Result {
         match self {
+            Question::Form { file, kind } => write!(f, "form of {file:?} as kind {kind}"),
             Question::Cross => write!(f, "cross-check"),
             Question::Trace { tape, record, channel } => {
                 write!(f, "`{}` {record}, channel {channel}", tape.escape_ascii())
@@ -113,14 +121,15 @@ impl Answer {
             }
             Answer::Channel(channel) => u64::from(channel),
             Answer::TableLine(line) => u64::from(line),
-            Answer::NoTrace | Answer::NotNamed => 0,
+            Answer::Formed | Answer::NoTrace | Answer::NotNamed => 0,
             Answer::Spread { highest, .. } => u64::from(highest),
         }
     }
 
-    /// The program's line, with its line feed; it only checks sets.
+    /// The line of a program, with its line feed; programs check files and sets.
     pub fn verdict(&self) -> Option<String> {
         match *self {
+            Answer::Formed => Some("ACCEPTED\n".to_owned()),
             Answer::Accepted { receivers, shots, relations, traces, dead_traces } => {
                 Some(format!("ACCEPTED {receivers} {shots} {relations} {traces} {dead_traces}\n"))
             }

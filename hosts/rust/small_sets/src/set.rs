@@ -56,6 +56,16 @@ impl File {
             X => "X",
         }
     }
+
+    /// The byte of its letter, by which a question names it.
+    pub fn kind(self) -> u64 {
+        self.letter().as_bytes()[0].into()
+    }
+
+    /// The file that a question names.
+    pub fn of_kind(kind: u64) -> Option<File> {
+        File::ALL.into_iter().find(|file| file.kind() == kind)
+    }
 }
 
 /// The bytes of the three files, in the form of their medium.

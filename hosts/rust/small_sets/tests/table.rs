@@ -26,14 +26,19 @@ fn every_refusal_is_asked_for() {
     assert!(numbers.into_iter().eq((1..=21).chain([24, 25, 29])));
 }
 
-/// Every case of the cross-check has a line.
+/// Every case of the cross-check has a line, and so has one of a file whose kind has a letter.
 #[test]
-fn cross_checks_have_verdicts() {
+fn checks_have_verdicts() {
+    let (mut forms, mut sets) = (0, 0);
     for case in table() {
-        if case.question == Question::Cross {
-            assert!(case.expected.verdict().is_some(), "{}", case.name);
+        match case.question {
+            Question::Cross => sets += 1,
+            Question::Form { kind, .. } if File::of_kind(kind).is_some() => forms += 1,
+            _ => continue,
         }
+        assert!(case.expected.verdict().is_some(), "{}", case.name);
     }
+    assert!(forms > 100 && sets > 1_000, "{forms} files, {sets} sets");
 }
 
 /// Set A field by field, each with all its columns.

@@ -24,7 +24,7 @@ fn any(random: &mut Random) -> (u64, Vec<u8>) {
     let digit = random.pick(b"123456789");
     match random.pick(&File::ALL) {
         File::X => (b'X'.into(), vec![digit]),
-        file => (file.letter().as_bytes()[0].into(), vec![random.pick(codes(file)), digit]),
+        file => (file.kind(), vec![random.pick(codes(file)), digit]),
     }
 }
 
@@ -32,7 +32,7 @@ fn any(random: &mut Random) -> (u64, Vec<u8>) {
 fn used(random: &mut Random, set: &Set) -> (u64, Vec<u8>) {
     let file = random.pick(&File::ALL);
     let Some(line) = crate::faults::own_line(random, set, file) else { return any(random) };
-    let (kind, line) = (file.letter().as_bytes()[0].into(), set.line(file, line).0);
+    let (kind, line) = (file.kind(), set.line(file, line).0);
     match file {
         File::X => (kind, vec![line[12]]),
         File::R | File::S => (kind, line[26..28].to_vec()),

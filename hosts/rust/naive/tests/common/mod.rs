@@ -8,6 +8,9 @@ use small_sets::{Answer, Question, Set, STAYS};
 pub fn answer(set: &Set, question: &Question) -> (Answer, u64) {
     let (medium, files) = (naive::medium(set.medium as u64).expect("a medium"), set.files());
     match question {
+        Question::Form { file, kind } => {
+            both(naive::form(medium, *kind, set.file(*file)), |()| Answer::Formed)
+        }
         Question::Cross => both(naive::check(medium, files), accepted),
         Question::Trace { tape, record, channel } => {
             both(naive::trace(medium, files, tape, *record, *channel), traced)

@@ -45,7 +45,7 @@ fn empty() -> Vec<Case> {
 }
 
 /// Set A with markers or receivers added up to a number of lines of one file.
-fn long(file: File, lines: usize) -> Set {
+pub fn long(file: File, lines: usize) -> Set {
     let set = set_a();
     let missing = lines - set.lines(file);
     match file {

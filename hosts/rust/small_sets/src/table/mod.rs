@@ -6,6 +6,7 @@ pub mod code_tables;
 mod covers;
 pub mod decimals;
 mod files;
+mod forms;
 mod headers;
 pub mod killed;
 mod markers;
@@ -25,7 +26,7 @@ use crate::Case;
 /// A name, and what gives the cases.
 pub type Section = (&'static str, fn() -> Vec<Case>);
 
-pub const SECTIONS: [Section; 18] = [
+pub const SECTIONS: [Section; 19] = [
     ("paper", paper::cases),
     ("files", files::cases),
     ("headers", headers::cases),
@@ -44,6 +45,7 @@ pub const SECTIONS: [Section; 18] = [
     ("pairs_of_set", pairs_of_set::cases),
     ("answers", answers::cases),
     ("tapes", tapes::cases),
+    ("forms", forms::cases),
 ];
 
 /// All sections, one after another.

@@ -26,7 +26,7 @@ pub fn cases() -> Vec<Case> {
 }
 
 /// A set of the disc on tape.
-fn tape(set: Set) -> Set {
+pub fn tape(set: Set) -> Set {
     set.on_tape().expect("characters of a tape")
 }
 

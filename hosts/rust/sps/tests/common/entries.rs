@@ -1,10 +1,10 @@
-//! The ways to put a question to a set. The answers have the table's form; a refused
-//! spread table is held to leave its slices as they are.
+//! The ways to put a question to a file or a set. The answers have the table's form; a
+//! refused spread table is held to leave its slices as they are.
 
 use crate::archive::{self, Files};
 use crate::lent::{lent, stay};
-use crate::wrapped::wrapped;
-use small_sets::{Answer, Question, Set, STAYS};
+use crate::wrapped::{self, wrapped};
+use small_sets::{Answer, File, Question, Set, STAYS};
 use sps::{Accepted, Kind, Record, Refusal, Trace};
 
 /// What stands in each line's place before the question.
@@ -15,6 +15,7 @@ pub fn proved(set: &Set, question: &Question) -> Vec<(&'static str, Answer)> {
     let files = set;
     let set = wrapped(files);
     match question {
+        Question::Form { file, kind } => form(files, *file, *kind),
         Question::Cross => vec![("cross", told(set.cross(), accepted))],
         Question::Trace { tape, record, channel } => {
             vec![("channel", told(set.record(tape, *record).channel(*channel), traced))]
@@ -36,29 +37,49 @@ pub fn proved(set: &Set, question: &Question) -> Vec<(&'static str, Answer)> {
 }
 
 /// The call takes any kind, the wrapper those that have a name.
+fn form(set: &Set, file: File, kind: u64) -> Vec<(&'static str, Answer)> {
+    let (medium, file) = (set.medium, set.file(file));
+    let by_name = File::of_kind(kind).map(|kind| {
+        let answer = sps::form(wrapped::medium(medium), wrapped::file(kind), file);
+        ("form", told(answer, |()| Answer::Formed))
+    });
+    let answer = unpacked(archive::form(medium as u64, kind, file), |number| {
+        assert_eq!(number, 0);
+        Answer::Formed
+    });
+    by_name.into_iter().chain([("sps_form", answer)]).collect()
+}
+
+/// The same of the kind of a code.
 fn table_line(set: &Set, kind: u64, code: &[u8]) -> Vec<(&'static str, Answer)> {
     let Set { medium, r, s, x } = set;
     let files = Files { medium: *medium as u64, r, s, x };
-    let named = match u8::try_from(kind) {
-        Ok(b'R') => Some(Kind::Receiver),
-        Ok(b'S') => Some(Kind::Source),
-        Ok(b'X') => Some(Kind::Instrument),
-        _ => None,
-    };
     let line =
         |line: Option<u64>| line.map_or(Answer::NotNamed, |line| Answer::TableLine(small(line)));
-    let by_name = named.map(|kind| ("table_line", told(wrapped(set).table_line(kind, code), line)));
+    let by_name = File::of_kind(kind).map(|file| {
+        let kind = match file {
+            File::R => Kind::Receiver,
+            File::S => Kind::Source,
+            File::X => Kind::Instrument,
+        };
+        ("table_line", told(wrapped(set).table_line(kind, code), line))
+    });
     let packed = archive::table_line(files, kind, code);
-    let answer = match packed >> 40 {
-        0 => line(Some(packed).filter(|line| *line > 0)),
+    let answer = unpacked(packed, |number| line(Some(number).filter(|line| *line > 0)));
+    by_name.into_iter().chain([("sps_table_line", answer)]).collect()
+}
+
+/// The number of a call: a refusal from 2^40 on, otherwise as it is shown.
+fn unpacked(packed: u64, show: impl FnOnce(u64) -> Answer) -> Answer {
+    match packed >> 40 {
+        0 => show(packed),
         number => Answer::Refused {
             number: small(number),
             file: small(packed >> 32 & 0xFF),
             line: small(packed >> 8 & 0xFF_FFFF),
             column: small(packed & 0xFF),
         },
-    };
-    by_name.into_iter().chain([("sps_table_line", answer)]).collect()
+    }
 }
 
 fn told<T>(answer: Result<T, Refusal>, show: impl FnOnce(T) -> Answer) -> Answer {

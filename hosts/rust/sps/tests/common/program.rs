@@ -32,6 +32,12 @@ pub fn words(medium: Medium) -> &'static [&'static str] {
     }
 }
 
+/// The words by which it takes one file as a kind.
+pub fn words_of_one<'a>(medium: Medium, kind: &'a str, name: &'a str) -> Vec<&'a str> {
+    let tape = (medium == Medium::Tape).then_some("--tape");
+    tape.into_iter().chain(["--kind", kind, name]).collect()
+}
+
 /// Runs the command for a person, with some words, in a folder.
 pub fn spswhy(folder: &Path, words: &[&str]) -> Output {
     let mut command = Command::new(env!("CARGO_BIN_EXE_spswhy"));

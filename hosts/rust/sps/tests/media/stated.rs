@@ -23,8 +23,13 @@ fn stated(set: &Set, question: &Question) -> Answer {
         Answer::Refused { number, .. } => number,
         _ => 0,
     };
-    if let Some(file) = full(set).filter(|&file| !refused_before(&disc, file)) {
-        return Answer::Refused { number: 2, file: file as u8, line: 10_000, column: 0 };
+    if let Question::Form { file, kind } = question {
+        let too_long = File::of_kind(*kind).filter(|_| is_full(set, *file));
+        return too_long.map_or(disc, too_many);
+    }
+    let full = File::ALL.into_iter().find(|&file| is_full(set, file));
+    if let Some(file) = full.filter(|&file| !refused_before(&disc, file)) {
+        return too_many(file);
     }
     if matches!(number, 1..=9 | 24 | 25) {
         return disc;
@@ -39,9 +44,13 @@ fn stated(set: &Set, question: &Question) -> Answer {
     moved(compare(&sorted, &asked(question, &moves)), &moves)
 }
 
-/// The first file whose tape has a record too many, where its disc has not.
-fn full(set: &Set) -> Option<File> {
-    File::ALL.into_iter().find(|&file| set.file(file).len() == 9_999 * 82)
+fn too_many(file: File) -> Answer {
+    Answer::Refused { number: 2, file: file as u8, line: 10_000, column: 0 }
+}
+
+/// Whether the tape of a file has a record too many, where its disc has not.
+fn is_full(set: &Set, file: File) -> bool {
+    set.file(file).len() == 9_999 * 82
 }
 
 /// Whether the form of an earlier file is refused.

@@ -1,18 +1,13 @@
 //! What each of the readers answers to a set.
 
-use crate::wrapped::wrapped;
+use crate::wrapped::{self, wrapped};
 use sps::{Accepted, Number, Refusal};
 
 pub type Answer = Result<Accepted, Refusal>;
 
 /// A refusal at a place of a file.
 pub fn refused(number: u64, file: small_sets::File, line: u64, column: u64) -> Answer {
-    let file = match file {
-        small_sets::File::R => sps::File::R,
-        small_sets::File::S => sps::File::S,
-        small_sets::File::X => sps::File::X,
-    };
-    Err(Refusal { number: Number::of(number), file: Some(file), line, column })
+    Err(Refusal { number: Number::of(number), file: Some(wrapped::file(file)), line, column })
 }
 
 pub fn naive(set: &small_sets::Set) -> Answer {

@@ -91,8 +91,8 @@ fn each_two_bytes() {
             assert_eq!([&one, &two].map(proved), expected, "{file:?} {bytes:?}");
             if expected[0] == AS_A && expected[1] != AS_A {
                 let asked = if file == X { &bytes[..1] } else { &bytes[..] };
-                let kind = file.letter().as_bytes()[0].into();
-                let found = archive::table_line(files(&one, one.medium as u64), kind, asked);
+                let files = files(&one, one.medium as u64);
+                let found = archive::table_line(files, file.kind(), asked);
                 assert_eq!(found, line, "{file:?} {bytes:?}");
                 named += 1;
             }

@@ -12,7 +12,7 @@ mod tables;
 mod tapes;
 mod unreadable;
 
-use program::{folder, spswhy, words, write, NAMES};
+use program::{folder, spswhy, words, words_of_one, write, NAMES};
 use small_sets::Set;
 use std::process::Output;
 

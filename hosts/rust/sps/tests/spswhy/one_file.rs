@@ -1,16 +1,10 @@
 //! One file as a kind, alone in its folder.
 
-use crate::{folder, media, of, said, spswhy, Said, NAMES};
+use crate::{folder, media, of, said, spswhy, words_of_one, Said, NAMES};
 use small_sets::place::{below, first};
 use small_sets::File::{R, S, X};
 use small_sets::{headers_only, relation, set_a, shot, File, Medium, Set};
 use std::fs;
-
-/// The words by which one file is taken as a kind.
-fn words_of_one<'a>(medium: Medium, kind: &'a str, name: &'a str) -> Vec<&'a str> {
-    let tape = (medium == Medium::Tape).then_some("--tape");
-    tape.into_iter().chain(["--kind", kind, name]).collect()
-}
 
 /// What is said of bytes as a kind, in a file of some name.
 fn of_bytes(test: &str, bytes: &[u8], medium: Medium, kind: File, name: &str) -> Said {
