@@ -64,6 +64,17 @@ pub fn damage(random: &mut Random, set: Set) -> (Set, &'static str) {
     (change(random, set), name)
 }
 
+/// A set with so many things changed, and the names of the ways.
+pub fn damage_more(random: &mut Random, mut set: Set, times: usize) -> (Set, String) {
+    let mut ways = Vec::new();
+    for _ in 0..times {
+        let way;
+        (set, way) = damage(random, set);
+        ways.push(way);
+    }
+    (set, ways.join(", then "))
+}
+
 /// One of the files.
 fn file(random: &mut Random) -> File {
     random.pick(&File::ALL)

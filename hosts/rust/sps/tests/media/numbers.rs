@@ -13,8 +13,8 @@ const OUT_OF_RANGE: u64 = 20 << 40;
 
 const STAYS: u8 = 0xAA;
 
-/// The answers of the six calls; what is lent stays.
-fn answers(files: Files, tape: &[u8], numbers: [u64; 4]) -> [u64; 6] {
+/// The answers of the seven calls; what is lent stays.
+fn answers(files: Files, tape: &[u8], numbers: [u64; 4]) -> [u64; 7] {
     let [record, channel, r_line, component] = numbers;
     let (counts, bytes) = lent(STAYS, 48, |bytes| archive::counts(files, bytes));
     let ((spread, components), lines) = lent(STAYS, 9, |lines| {
@@ -23,10 +23,11 @@ fn answers(files: Files, tape: &[u8], numbers: [u64; 4]) -> [u64; 6] {
     for lent in [bytes, lines, components] {
         stay(STAYS, &lent);
     }
+    let form = archive::form(files.medium, b'R'.into(), files.r);
     let trace = archive::trace(files, tape, record, channel);
     let back = archive::channel(files, tape, record, r_line, component);
     let line = archive::table_line(files, b'R'.into(), &tape[..tape.len().min(2)]);
-    [archive::cross(files), counts, trace, back, spread, line]
+    [form, archive::cross(files), counts, trace, back, spread, line]
 }
 
 /// Of sound sets and of bad ones, with questions in range and out of it.
@@ -44,7 +45,7 @@ fn another_medium() {
                 (b"100", [11, 2, line, 1]),
                 (b"100   ", [u64::MAX, 0, 0, 0]),
             ] {
-                assert_eq!(answers(files, tape, numbers), [OUT_OF_RANGE; 6], "medium {medium}");
+                assert_eq!(answers(files, tape, numbers), [OUT_OF_RANGE; 7], "medium {medium}");
                 assert!(naive::medium(medium).is_err_and(|refusal| refusal.number == 20));
             }
         }

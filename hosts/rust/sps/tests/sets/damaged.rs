@@ -1,7 +1,7 @@
 //! Sound sets, then with one thing changed, then with two or three.
 
 use crate::compare::{compare, compare_calls, Tally};
-use many_sets::faults::damage;
+use many_sets::faults::damage_more;
 use many_sets::run::{random, turns};
 use many_sets::sound::sound;
 use sps::Accepted;
@@ -28,15 +28,9 @@ fn changed(salt: u64, sets: u64, changes: usize) {
     for _ in 0..turns(sets / 8) {
         let made = sound(&mut random);
         for turn in 0..8 {
-            let mut set = made.set.clone();
-            let mut ways = Vec::new();
-            for _ in 0..changes {
-                let way;
-                (set, way) = damage(&mut random, set);
-                ways.push(way);
-            }
+            let (set, ways) = damage_more(&mut random, made.set.clone(), changes);
             let compare = if turn == 0 { compare_calls } else { compare };
-            tally.count(compare(&set, &ways.join(", then ")));
+            tally.count(compare(&set, &ways));
         }
     }
     tally.holds((1..=19).chain([24, 25]), 20);

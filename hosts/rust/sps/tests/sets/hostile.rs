@@ -1,7 +1,7 @@
 //! Hostile sets of 2,000 lines a file, as they are, then with changes.
 
 use crate::compare::{compare, compare_calls, Tally};
-use many_sets::faults::damage;
+use many_sets::faults::damage_more;
 use many_sets::large::{Large, HOSTILE, WIDEST};
 use many_sets::run::{random, turns};
 use small_sets::Set;
@@ -17,13 +17,8 @@ fn changed(salt: u64, sets: &[Large], times: &[u64]) -> Tally {
         tally.count(compare_calls(&hostile, name));
         for (changes, &times) in (1..).zip(times) {
             for _ in 0..turns(times) {
-                let (mut set, mut ways) = (hostile.clone(), vec![*name]);
-                for _ in 0..changes {
-                    let way;
-                    (set, way) = damage(&mut random, set);
-                    ways.push(way);
-                }
-                tally.count(compare(&set, &ways.join(", then ")));
+                let (set, ways) = damage_more(&mut random, hostile.clone(), changes);
+                tally.count(compare(&set, &format!("{name}, {ways}")));
             }
         }
     }
