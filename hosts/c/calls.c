@@ -47,11 +47,42 @@ static void counts(struct set set, size_t len, uint64_t expected, size_t places,
     free(bytes);
 }
 
-/* The cross-check, and the counts in slices of each length, of which so many places are written. */
+/* Whether a refusal is one of the form of a file. */
+static int of_form(uint64_t answer)
+{
+    unsigned number = sps_refusal_number(answer);
+    return (number >= SPS_FILE_LENGTH && number <= SPS_CHANNELS) || number == SPS_TAPE_END;
+}
+
+/*
+ * The form of each file, by what the set is answered: the file that is refused for its form is
+ * refused alone too, and those before it are well formed. A medium that is neither is refused of
+ * each.
+ */
+static void forms(struct set set, uint64_t answer)
+{
+    uint64_t r = form(set.medium, SPS_KIND_R, set.r), s = form(set.medium, SPS_KIND_S, set.s),
+             x = form(set.medium, SPS_KIND_X, set.x);
+    if (sps_refusal_number(answer) == SPS_QUESTION_RANGE) {
+        SAME(r, answer);
+        SAME(s, answer);
+        SAME(x, answer);
+    } else if (of_form(answer)) {
+        SAME(r != 0 ? r : s != 0 ? s : x, answer);
+    } else {
+        SAME(r | s | x, 0);
+    }
+}
+
+/*
+ * The form of each file, the cross-check, and the counts in slices of each length, of which so many
+ * places are written.
+ */
 static void answers(struct set set, uint64_t expected, size_t places, const uint8_t *held)
 {
     static const size_t lengths[] = {0, 7, 8, 15, 16, 31, 32, 33, 39, 40, 41, 47, 48};
     size_t at;
+    forms(set, expected);
     SAME(sps_cross(FILES(set)), expected);
     for (at = 0; at < sizeof lengths / sizeof *lengths; at++) {
         size_t whole = lengths[at] / 8;
@@ -70,6 +101,31 @@ static void accepted(struct set set)
 {
     static const uint8_t held[] = {3, 1, 1, 3, 0};
     answers(set, 3, 5, held);
+}
+
+/* Files of set A as other kinds, and kinds that are none, also where fewer bits would be one. */
+static void kinds(struct set set)
+{
+    static const uint64_t none[] = {0, SPS_R, SPS_S, SPS_X, 'r', 'H', 256 + SPS_KIND_R,
+                                    (UINT64_C(1) << 32) + SPS_KIND_R,
+                                    (UINT64_C(1) << 63) + SPS_KIND_X, UINT64_MAX};
+    const uint64_t no = refusal(SPS_QUESTION_RANGE, SPS_NO_FILE, 0, 0);
+    const struct bytes empty = {NULL, 0};
+    struct bytes cut = set.r;
+    size_t at;
+    SAME(form(set.medium, SPS_KIND_S, set.r), refusal(SPS_LETTER, SPS_S, FIRST, 1));
+    SAME(form(set.medium, SPS_KIND_X, set.s), refusal(SPS_LETTER, SPS_X, FIRST, 1));
+    SAME(form(set.medium, SPS_KIND_R, set.x), refusal(SPS_LETTER, SPS_R, FIRST, 1));
+    cut.len = 79;
+    SAME(form(set.medium, SPS_KIND_X, cut), refusal(SPS_FILE_LENGTH, SPS_X, 1, 0));
+    for (at = 0; at < sizeof none / sizeof *none; at++) {
+        SAME(form(set.medium, none[at], set.r), no);
+        SAME(form(set.medium, none[at], cut), no);
+        SAME(form(set.medium, none[at], empty), no);
+        SAME(form(0, none[at], set.r), no);
+    }
+    SAME(form(SPS_DISC, SPS_KIND_S, empty), 0);
+    SAME(form(SPS_TAPE, SPS_KIND_S, empty), refusal(SPS_TAPE_END, SPS_S, 1, 0));
 }
 
 /* The lookup and the way back. */
@@ -348,6 +404,7 @@ static void parts(void)
 static void both(struct set set)
 {
     accepted(set);
+    kinds(set);
     lookups(set);
     table_lines(set);
     out_of_range(set);

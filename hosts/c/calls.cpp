@@ -37,6 +37,10 @@ struct Set {
     std::uint64_t medium;
     Bytes r, s, x;
 
+    std::uint64_t form(std::uint64_t kind, const Bytes &file) const
+    {
+        return sps_form(medium, kind, file.data(), file.size());
+    }
     std::uint64_t cross() const
     {
         return sps_cross(medium, r.data(), r.size(), s.data(), s.size(), x.data(), x.size());
@@ -93,6 +97,9 @@ void answers(const Set &set)
     Bytes lines(9, 0xEE), components(4, 0xEE);
     const Bytes written = {FIRST, 0, SECOND, 0, THIRD, 0, 0xEE, 0xEE, 0xEE}, ones = {1, 1, 1, 0xEE};
 
+    same("the form of R", set.form(SPS_KIND_R, set.r), 0u);
+    same("the form of S", set.form(SPS_KIND_S, set.s), 0u);
+    same("the form of X", set.form(SPS_KIND_X, set.x), 0u);
     same("the cross-check", set.cross(), 3u);
     for (std::size_t length : {0, 7, 8, 15, 16, 31, 32, 33, 39, 40, 41, 48}) {
         Bytes counts(length, 0xAA);
@@ -118,6 +125,21 @@ void answers(const Set &set)
     same("no code", sps_refusal_number(set.table_line(SPS_RECEIVER_CODE, {})), SPS_QUESTION_RANGE);
 }
 
+// Files of another kind, and kinds that are none.
+void kinds(const Set &set)
+{
+    const std::uint64_t answer = set.form(SPS_KIND_R, set.s);
+    same("the number of another kind", sps_refusal_number(answer), SPS_LETTER);
+    same("the file of another kind", sps_refusal_file(answer), SPS_R);
+    same("the line of another kind", sps_refusal_line(answer), FIRST);
+    same("the column of another kind", sps_refusal_column(answer), 1u);
+    for (std::uint64_t kind : {UINT64_C(0), UINT64_C(1), UINT64_C(72), UINT64_C(114),
+                               (UINT64_C(1) << 32) + SPS_KIND_R, UINT64_MAX}) {
+        same("no kind", set.form(kind, set.r), UINT64_C(20) << 40);
+        same("no kind of no byte", set.form(kind, {}), UINT64_C(20) << 40);
+    }
+}
+
 // A byte more at the end of R, whose last line is given.
 void refusals(Set set, unsigned last)
 {
@@ -131,6 +153,8 @@ void refusals(Set set, unsigned last)
     same("the line", sps_refusal_line(answer), last + 1);
     same("the column", sps_refusal_column(answer), 0u);
     same("the counts of a refusal", counts, stays);
+    same("the form of the file", set.form(SPS_KIND_R, set.r), answer);
+    same("the form of another", set.form(SPS_KIND_S, set.s), 0u);
     same("the line of a code", set.table_line(SPS_RECEIVER_CODE, {'G', '1'}), answer);
 }
 
@@ -163,6 +187,7 @@ void media(Set set)
     for (std::uint64_t medium : {UINT64_C(0), UINT64_C(3), UINT64_C(0x100000001), UINT64_MAX}) {
         set.medium = medium;
         same("another medium", sps_refusal_number(set.counts(counts)), SPS_QUESTION_RANGE);
+        same("a file of another medium", set.form(SPS_KIND_R, set.r), UINT64_C(20) << 40);
         same("the counts of another medium", counts, stays);
     }
 }
@@ -178,6 +203,8 @@ int main(int count, char **words)
     const Set disc = read_set(SPS_DISC, words[1]), tape = read_set(SPS_TAPE, words[2]);
     answers(disc);
     answers(tape);
+    kinds(disc);
+    kinds(tape);
     refusals(disc, THIRD);
     refusals(tape, THIRD + 1);
     media(disc);

@@ -1,7 +1,7 @@
 /*
  * Every call in a thread of a small stack. The arguments are the medium and the folder of a set of
- * 9,999 lines a file, and the record to ask for, on tape 100. It prints the six answers in one
- * line.
+ * 9,999 lines a file, and the record to ask for, on tape 100. It prints the answers in one line, of
+ * the form for each file.
  */
 #include "try.h"
 #include <pthread.h>
@@ -13,17 +13,20 @@ enum { STACK = 204800 };
 static const uint8_t tape[] = {'1', '0', '0', ' ', ' ', ' '};
 static uint8_t lines[19998], components[9999];
 
-/* The six answers of a set. */
+/* The answers of a set. */
 struct answers {
     struct set set;
     uint64_t record;
-    uint64_t cross, counts, trace, channel, spread, table_line;
+    uint64_t r, s, x, cross, counts, trace, channel, spread, table_line;
 };
 
 static void *ask(void *lent)
 {
     struct answers *to = (struct answers *)lent;
     uint8_t counts[40];
+    to->r = form(to->set.medium, SPS_KIND_R, to->set.r);
+    to->s = form(to->set.medium, SPS_KIND_S, to->set.s);
+    to->x = form(to->set.medium, SPS_KIND_X, to->set.x);
     to->cross = sps_cross(FILES(to->set));
     to->counts = sps_counts(FILES(to->set), counts, sizeof counts);
     to->trace = sps_trace(FILES(to->set), tape, 6, to->record, 200);
@@ -52,7 +55,8 @@ int main(int count, char **words)
         fprintf(stderr, "no thread of %d bytes of stack\n", STACK);
         return 2;
     }
-    printf("%llu %llu %llu %llu %llu %llu\n", (unsigned long long)to.cross,
+    printf("%llu %llu %llu %llu %llu %llu %llu %llu %llu\n", (unsigned long long)to.r,
+           (unsigned long long)to.s, (unsigned long long)to.x, (unsigned long long)to.cross,
            (unsigned long long)to.counts, (unsigned long long)to.trace,
            (unsigned long long)to.channel, (unsigned long long)to.spread,
            (unsigned long long)to.table_line);

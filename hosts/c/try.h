@@ -33,6 +33,12 @@ struct bytes {
     size_t len;
 };
 
+/* The form of a file as a kind. */
+static inline uint64_t form(uint64_t medium, uint64_t kind, struct bytes file)
+{
+    return sps_form(medium, kind, file.at, file.len);
+}
+
 struct set {
     uint64_t medium;
     struct bytes r, s, x;

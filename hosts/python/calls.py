@@ -22,20 +22,22 @@ OF_1, OF_G1, OF_V1, FIRST, SECOND, THIRD = 22, 23, 24, 25, 26, 27
 
 
 def library(path):
-    """The six calls with their types."""
+    """The seven calls with their types."""
     sps = ctypes.CDLL(path)
     types = {
-        "sps_cross": [],
-        "sps_counts": BYTES,
-        "sps_trace": RECORD + [U64],
-        "sps_channel": RECORD + [U64, U64],
-        "sps_spread": RECORD + BYTES + BYTES,
-        "sps_table_line": [U64, ctypes.c_char_p, SIZE],
+        "sps_form": [U64, U64, ctypes.c_char_p, SIZE],
+        "sps_cross": FILES,
+        "sps_counts": FILES + BYTES,
+        "sps_trace": FILES + RECORD + [U64],
+        "sps_channel": FILES + RECORD + [U64, U64],
+        "sps_spread": FILES + RECORD + BYTES + BYTES,
+        "sps_table_line": FILES + [U64, ctypes.c_char_p, SIZE],
     }
-    for name, rest in types.items():
+    for name, arguments in types.items():
         call = getattr(sps, name)
-        call.argtypes = FILES + rest
+        call.argtypes = arguments
         call.restype = U64
+    assert not hasattr(sps, "sps_check")
     return sps
 
 
@@ -48,6 +50,21 @@ def files(medium, folder):
 def refusal(number, file, line, column):
     """A refusal as one number."""
     return (number << 40) + (file << 32) + line * 256 + column
+
+
+def forms(sps, set_a):
+    """Each file of set A as each kind, and kinds that are none."""
+    medium = set_a[0]
+    for own, file in zip("RSX", (set_a[1:3], set_a[3:5], set_a[5:7])):
+        for number, kind in enumerate("RSX", 1):
+            expected = 0 if kind == own else refusal(4, number, FIRST, 1)
+            assert sps.sps_form(medium, ord(kind), *file) == expected
+        for kind in (0, 1, ord("r"), ord("H"), 2**32 + ord(own), 2**64 - 1):
+            assert sps.sps_form(medium, kind, *file) == refusal(20, 0, 0, 0)
+            assert sps.sps_form(medium, kind, None, 0) == refusal(20, 0, 0, 0)
+        assert sps.sps_form(0, ord(own), *file) == refusal(20, 0, 0, 0)
+    assert sps.sps_form(DISC, ord("X"), None, 0) == 0
+    assert sps.sps_form(TAPE, ord("X"), None, 0) == refusal(29, 3, 1, 0)
 
 
 def answers(sps, set_a):
@@ -99,6 +116,7 @@ def refusals(sps, set_a, last):
     counts = (ctypes.c_uint8 * 40)(*[170] * 40)
     medium, r, r_len = set_a[:3]
     cut = [medium, r, r_len - 1] + set_a[3:]
+    assert sps.sps_form(medium, ord("R"), r, r_len - 1) == refusal(1, 1, last, 0)
     assert sps.sps_counts(*cut, counts, 40) == refusal(1, 1, last, 0)
     for other in (0, 3, 2**32 + 1, 2**64 - 1):
         assert sps.sps_counts(other, *set_a[1:], counts, 40) == refusal(20, 0, 0, 0)
@@ -125,6 +143,7 @@ def main():
     shared, disc, tape, with_killed = sys.argv[1:]
     sps = library(shared)
     for set_a, last in ((files(DISC, disc), THIRD), (files(TAPE, tape), THIRD + 1)):
+        forms(sps, set_a)
         answers(sps, set_a)
         refusals(sps, set_a, last)
     killed(sps, files(DISC, with_killed))

@@ -13,8 +13,28 @@ use std::process::Command;
 const ARCHIVE: &str = env!("ARCHIVE");
 const WARNINGS: [&str; 4] = ["-Wall", "-Wextra", "-Werror", "-pedantic"];
 
+/// The calls of the archive.
+const CALLS: [&str; 7] = [
+    "sps_channel",
+    "sps_counts",
+    "sps_cross",
+    "sps_form",
+    "sps_spread",
+    "sps_table_line",
+    "sps_trace",
+];
+
 fn root() -> PathBuf {
     Path::new(env!("CARGO_MANIFEST_DIR")).join("../../..")
+}
+
+fn header() -> String {
+    fs::read_to_string(root().join("include/sps.h")).expect("the header")
+}
+
+/// The symbols of the archive, one a line.
+fn symbols() -> String {
+    run("nm", &[&"-P", &ARCHIVE])
 }
 
 /// Set A on disc, and on tape.
@@ -96,15 +116,23 @@ fn c_example() {
         [(written("example_killed", &killed), 1, ", killed"), (set_a(), 0, "")]
     {
         let [r, s, x] = files(folder);
+        let formed = "R is well formed\n";
+        assert_eq!(run(&example, &[&r]), formed);
         let printed = run(&example, &[&r, &s, &x]);
         let line = format!("R line {}, component 1{mark}\n", below(2));
-        assert_eq!(printed, format!("3 receivers, 3 traces, {dead} dead\n{line}"));
+        assert_eq!(printed, format!("{formed}3 receivers, 3 traces, {dead} dead\n{line}"));
     }
-    let [r, _, x] = files(set_a());
-    let refused = Command::new(example).args([&r, &r, &x]).output().expect("it runs");
-    assert_eq!(refused.status.code(), Some(1));
-    let refusal = format!("refused with 4: file 2, line {}, column 1\n", first());
-    assert_eq!(refused.stdout, refusal.as_bytes());
+    let [r, s, x] = files(set_a());
+    let refusal = |file| format!("refused with 4: file {file}, line {}, column 1\n", first());
+    for (files, printed) in [
+        (vec![&s], refusal(1)),
+        (vec![&s, &s, &x], refusal(1)),
+        (vec![&r, &r, &x], format!("R is well formed\n{}", refusal(2))),
+    ] {
+        let refused = Command::new(&example).args(files).output().expect("it runs");
+        assert_eq!(refused.status.code(), Some(1));
+        assert_eq!(refused.stdout, printed.as_bytes());
+    }
 }
 
 #[test]
@@ -138,13 +166,16 @@ fn answers(set: &Set, record: u32) -> String {
     let medium = naive::medium(set.medium as u64).expect("a medium");
     let files = set.files();
     let (mut lines, mut components) = ([0; 9_999], [0; 9_999]);
+    let [r, s, x] = File::ALL
+        .map(|file| naive::form(medium, file.kind(), set.file(file)))
+        .map(|form| form.host_number());
     let crossed = naive::check(medium, files).host_number();
     let trace = naive::trace(medium, files, tape, record, 200).host_number();
     let channel = naive::channel(medium, files, tape, record, 9_999, 1).host_number();
     let spread =
         naive::spread(medium, files, tape, record, &mut lines, &mut components).host_number();
     let line = naive::table_line(medium, files, b'R'.into(), b"G1").host_number();
-    format!("{crossed} {crossed} {trace} {channel} {spread} {line}\n")
+    format!("{r} {s} {x} {crossed} {crossed} {trace} {channel} {spread} {line}\n")
 }
 
 /// Sets of 9,999 lines a file that differ in what has to be sorted and searched, with a
@@ -152,7 +183,8 @@ fn answers(set: &Set, record: u32) -> String {
 fn large_sets() -> Vec<(&'static str, Set, u32)> {
     let (accepted, last_record) = (two_million_traces(), most() - 1);
     let traces = 200 * most();
-    let found = format!("{traces} {traces} {} 200 200 {}\n", 9_999 * 16 + 1, header_line(600));
+    let line = 9_999 * 16 + 1;
+    let found = format!("0 0 0 {traces} {traces} {line} 200 200 {}\n", header_line(600));
     assert_eq!(answers(&accepted, last_record), found);
     let refused = accepted.clone().put(File::X, 9_999, 8, "   0");
     let mut sets = vec![("accepted", accepted, last_record), ("refused", refused, last_record)];
@@ -199,7 +231,7 @@ fn written(name: &str, set: &Set) -> PathBuf {
 /// no memory of its own that is written: it allocates and shares nothing.
 #[test]
 fn symbols_of_the_archive() {
-    let symbols = run("nm", &[&"-P", &ARCHIVE]);
+    let symbols = symbols();
     let mut calls = Vec::new();
     for symbol in symbols.lines() {
         match symbol.split_whitespace().collect::<Vec<_>>()[..] {
@@ -210,22 +242,35 @@ fn symbols_of_the_archive() {
         }
     }
     calls.sort_unstable();
-    let declared = [
-        "sps_channel",
-        "sps_counts",
-        "sps_cross",
-        "sps_form",
-        "sps_spread",
-        "sps_table_line",
-        "sps_trace",
-    ];
-    assert_eq!(calls, declared);
+    assert_eq!(calls, CALLS);
+}
+
+/// The header declares the calls of the archive, and no other.
+#[test]
+fn calls_of_the_header() {
+    let header = header();
+    let starts = header.lines().filter_map(|line| line.strip_prefix("uint64_t "));
+    let mut declared: Vec<&str> = starts.filter_map(|call| Some(call.split_once('(')?.0)).collect();
+    declared.sort_unstable();
+    assert_eq!(declared, CALLS);
+}
+
+/// Files are checked by the form of one and by the cross-check of three: no `sps_check` is
+/// beside these.
+#[test]
+fn no_call_beside_the_parts() {
+    let (symbols, header) = (symbols(), header());
+    for call in ["sps_form", "sps_cross"] {
+        assert!(symbols.lines().any(|symbol| symbol.starts_with(&format!("{call} T "))));
+    }
+    assert!(!symbols.contains("sps_check"), "{symbols}");
+    assert!(!header.contains("sps_check"));
 }
 
 /// The header's names are those of Rust: `SPS_NO_SHOT = 13` is `Number::NoShot`.
 #[test]
 fn names_of_the_header() {
-    let header = fs::read_to_string(root().join("include/sps.h")).expect("the header");
+    let header = header();
     let (_, after) = header.split_once("enum sps_number {").expect("the numbers");
     let (numbers, _) = after.split_once("};").expect("their end");
     let named = |number: sps::Number| {
