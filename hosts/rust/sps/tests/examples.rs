@@ -1,18 +1,32 @@
 //! What the examples print. `cargo test` builds them beside the tests.
 
-use small_sets::place::below;
+use small_sets::place::{below, first};
 use std::path::Path;
 use std::process::Command;
 
-/// Runs an example on a folder of `examples/`; the status is 0 unless it is said.
-fn printed(example: &str, folder: &str, words: &[&str], well: bool) -> String {
+/// Runs an example on a folder or a file of `examples/`; the status is 0 unless it is said.
+fn printed(example: &str, place: &str, words: &[&str], well: bool) -> String {
     let bin = Path::new(env!("CARGO_BIN_EXE_spswhy"));
     let program = bin.with_file_name("examples").join(example);
-    let folder = Path::new(env!("CARGO_MANIFEST_DIR")).join("../../../examples").join(folder);
-    let output = Command::new(&program).arg(folder).args(words).output();
+    let place = Path::new(env!("CARGO_MANIFEST_DIR")).join("../../../examples").join(place);
+    let output = Command::new(&program).arg(place).args(words).output();
     let output = output.expect("an example, as `cargo test` builds it when no target is named");
     assert_eq!(output.status.success(), well, "{example}: {output:?}");
     String::from_utf8(output.stdout).expect("text")
+}
+
+#[test]
+fn form() {
+    assert_eq!(printed("form", "odd_channel/set.r01", &["R"], true), "well formed\n");
+    assert_eq!(printed("form", "set_a_tape/set.x01", &["X", "--tape"], true), "well formed\n");
+    let refused = format!(
+        "REFUSED 4 R {} 1: column 1 is not H or the file's own letter, or an H line stands after \
+         data\n",
+        first()
+    );
+    assert_eq!(printed("form", "set_a/set.s01", &["R"], true), refused);
+    assert_eq!(printed("form", "set_a/set.s01", &["s"], false), "");
+    assert_eq!(printed("form", "set_a/set.s01", &[], false), "");
 }
 
 #[test]
