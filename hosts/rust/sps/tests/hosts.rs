@@ -195,9 +195,10 @@ fn large_sets() -> Vec<(&'static str, Set, u32)> {
                 let tape = make(FULL - 1).on_tape().expect("characters of a tape");
                 sets.extend([(name, make(FULL), 11), ("one record shuffled on tape", tape, 11)]);
             }
-            "nine indices in turn" | "records of 129 lines" | "all shuffled" => {
-                sets.push((name, make(FULL), 8));
-            }
+            "nine indices in turn"
+            | "records of 129 lines"
+            | "all shuffled"
+            | "all shuffled, half of the receivers killed" => sets.push((name, make(FULL), 8)),
             _ => {}
         }
     }
@@ -209,7 +210,7 @@ fn large_sets() -> Vec<(&'static str, Set, u32)> {
 fn c_with_a_small_stack() {
     let stack = compiled("cc", "-std=c99", "stack.c", "stack");
     let sets = large_sets();
-    assert_eq!(sets.len(), 7);
+    assert_eq!(sets.len(), 8);
     for (name, set, record) in sets {
         let folder = written(&name.replace(' ', "_"), &set);
         let medium = (set.medium as u64).to_string();

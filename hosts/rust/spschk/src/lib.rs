@@ -3,6 +3,7 @@
 
 #![forbid(unsafe_code)]
 
+use naive::Refusal;
 use small_sets::{folders, tape_folders, Medium, Set};
 use std::path::{Path, PathBuf};
 
@@ -11,22 +12,36 @@ pub fn root() -> PathBuf {
     Path::new(env!("CARGO_MANIFEST_DIR")).join("../../..")
 }
 
-/// The program's line for a set, with its line feed.
-pub fn line(set: &Set) -> String {
-    let medium = match set.medium {
+/// The medium of a set as the naive reader has it.
+fn medium(set: &Set) -> naive::Medium {
+    match set.medium {
         Medium::Disc => naive::Medium::Disc,
         Medium::Tape => naive::Medium::Tape,
-    };
-    match naive::check(medium, set.files()) {
+    }
+}
+
+/// The line of a refusal of a file, with its line feed.
+fn refused(refusal: Refusal) -> String {
+    let file = refusal.file.expect("a refusal of files has a file");
+    format!("REFUSED {} {file:?} {} {}\n", refusal.number, refusal.line, refusal.column)
+}
+
+/// The program's line for a set, with its line feed.
+pub fn line(set: &Set) -> String {
+    match naive::check(medium(set), set.files()) {
         Ok(counts) => format!(
             "ACCEPTED {} {} {} {} {}\n",
             counts.receivers, counts.shots, counts.relations, counts.traces, counts.dead_traces
         ),
-        Err(refusal) => {
-            let file = refusal.file.expect("a refusal of the cross-check has a file");
-            format!("REFUSED {} {file:?} {} {}\n", refusal.number, refusal.line, refusal.column)
-        }
+        Err(refusal) => refused(refusal),
     }
+}
+
+/// The lines of the files of a set that are not well formed by themselves.
+fn alone(set: &Set) -> String {
+    let files = [b'R', b'S', b'X'].into_iter().zip(set.files());
+    let forms = files.map(|(kind, file)| naive::form(medium(set), kind.into(), file));
+    forms.filter_map(Result::err).map(|refusal| format!("  alone {}", refused(refusal))).collect()
 }
 
 /// The files of `crates/cases/data` by path: the names of the folders, those of disc
@@ -48,5 +63,6 @@ pub fn data() -> Vec<(PathBuf, Vec<u8>)> {
 /// What the program `cases` has to write.
 pub fn stdout() -> String {
     let folders = folders().into_iter().chain(tape_folders());
-    folders.map(|folder| format!("{} {}", folder.name, line(&folder.set))).collect()
+    let said = |set: &Set| line(set) + &alone(set);
+    folders.map(|folder| format!("{} {}", folder.name, said(&folder.set))).collect()
 }
