@@ -82,7 +82,7 @@ pub extern "C" fn probe_form(f: &[u8], i: u8) -> u64
 
 // The values of a point line.
 #[no_mangle]
-pub extern "C" fn probe_point(line: &[u8; 80], numbers: &mut [u64; 10], signed: &mut [i64; 8])
+pub extern "C" fn probe_point(line: &[u8; 80], numbers: &mut [u64; 11], signed: &mut [i64; 8])
     ensures written { λ _. ⌜
         (now (numbers .exit) ≡ pointNumbers (codedPoint (pointValues sps93 (now (line .entry)))))
         × (now (signed .exit) ≡ pointSigned (codedPoint (pointValues sps93 (now (line .entry)))))

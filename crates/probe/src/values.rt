@@ -1,9 +1,10 @@
 // The values of a line as numbers in a row. Of a field that may be blank: whether it is held, and its value or 0.
 ghost use mathlib.Core.Path.{_≡_};
-ghost use Rattle.probe.specs.Values.{held as heldOf, heldValue, pointNumbers, pointSigned, relationNumbers};
+ghost use Rattle.probe.specs.Values.{held as heldOf, heldValue, stateNumber, pointNumbers, pointSigned, relationNumbers};
 use records::point::Held;
 use records::point::Point;
 use records::relation::Relation;
+use records::state::State;
 
 fn wide(n: u32) -> u64
     ensures value { λ r. ⌜ r ≡ n ⌝ }
@@ -29,10 +30,22 @@ fn held_value(h: Held) -> i64
     }
 }
 
-pub fn point_numbers(p: Point) -> [u64; 10]
+// 0 of a live point, 1 of a killed one, 2 of a marker.
+fn state_number(s: State) -> u64
+    ensures value { λ r. ⌜ r ≡ stateNumber s ⌝ }
+{
+    match s {
+        State::Live => 0,
+        State::Killed => 1,
+        State::Marker => 2,
+    }
+}
+
+pub fn point_numbers(p: Point) -> [u64; 11]
     ensures value { λ r. ⌜ r ≡ pointNumbers p ⌝ }
 {
     let name = p.name;
+    let state = p.state;
     let fixed = p.fixed;
     let uphole = p.uphole;
     let water = p.water;
@@ -42,6 +55,7 @@ pub fn point_numbers(p: Point) -> [u64; 10]
         wide(p.number),
         wide(p.index),
         p.code,
+        state_number(state),
         held(fixed),
         held(uphole),
         held(water),

@@ -19,6 +19,7 @@ pub struct Point {
     pub number: u64,
     pub index: u64,
     pub code: u64,
+    pub state: State,
     pub static_correction: Option<i64>,
     pub depth: i64,
     pub datum: i64,
@@ -29,6 +30,25 @@ pub struct Point {
     pub elevation: i64,
     pub day: u64,
     pub time: u64,
+}
+
+/// What a point is.
+#[derive(Clone, Copy, Debug, PartialEq, Eq)]
+pub enum State {
+    Live,
+    Killed,
+    Marker,
+}
+
+impl State {
+    fn of(number: u64) -> State {
+        match number {
+            0 => State::Live,
+            1 => State::Killed,
+            2 => State::Marker,
+            other => panic!("{other} is no state"),
+        }
+    }
 }
 
 /// The values of a relation line. The tape is its six bytes as a number, high
@@ -72,7 +92,7 @@ mod archive {
         ) -> u64;
         pub safe fn probe_line(line: &Line, file: u8) -> u64;
         pub fn probe_form(bytes: *const u8, len: usize, file: u8) -> u64;
-        pub safe fn probe_point(line: &Line, numbers: &mut [u64; 10], signed: &mut [i64; 8]);
+        pub safe fn probe_point(line: &Line, numbers: &mut [u64; 11], signed: &mut [i64; 8]);
         pub safe fn probe_relation(line: &Line, numbers: &mut [u64; 16]);
     }
 }
@@ -134,15 +154,17 @@ pub fn form(bytes: &[u8], file: u8) -> Option<Refusal> {
 /// The values of a point line that is not refused; of a marker those of its free
 /// columns say nothing.
 pub fn point(line: &Line) -> Point {
-    let (mut numbers, mut signed) = ([0; 10], [0; 8]);
+    let (mut numbers, mut signed) = ([0; 11], [0; 8]);
     archive::probe_point(line, &mut numbers, &mut signed);
-    let [hi, lo, number, index, code, static_held, uphole_held, water_held, day, time] = numbers;
+    let [hi, lo, number, index, code, state, static_held, uphole_held, water_held, day, time] =
+        numbers;
     let [static_value, depth, datum, uphole, water, easting, northing, elevation] = signed;
     Point {
         name: [hi, lo],
         number,
         index,
         code,
+        state: State::of(state),
         static_correction: held(static_held, static_value),
         depth,
         datum,

@@ -10,6 +10,9 @@ wide-requires c κs = search needs
 wide-requires-2 : tie.Need-wide-requires-2
 wide-requires-2 c κs = search needs
 
+state-number-requires : tie.Need-state-number-requires
+state-number-requires c κs = search needs
+
 held-requires : tie.Need-held-requires
 held-requires c κs = search needs
 
@@ -35,6 +38,7 @@ point-numbers-spec =
     (tie.spec
     wide-requires
     wide-requires-2
+    state-number-requires
     held-requires
     held-requires-2
     held-requires-3

@@ -1,7 +1,7 @@
 //! One line, both readers: the fault, and every value where there is none.
 
 use naive::{read_point, read_relation, Fault, File, Marker, Place, PointLine};
-use probe::{Point, Refusal, Relation};
+use probe::{Point, Refusal, Relation, State};
 use small_sets::Line;
 
 /// What a line holds.
@@ -25,8 +25,11 @@ pub fn compare(file: File, line: Line) -> Result<(), Fault> {
     assert_eq!(probe::refusal(&line, file as u8 + 1), refusal, "{shown}");
     match read? {
         Values::Header => {}
-        Values::Point(PointLine::Live(values) | PointLine::Killed(values)) => {
-            assert_eq!(probe::point(&line), point(values), "{shown}");
+        Values::Point(PointLine::Live(values)) => {
+            assert_eq!(probe::point(&line), point(values, State::Live), "{shown}");
+        }
+        Values::Point(PointLine::Killed(values)) => {
+            assert_eq!(probe::point(&line), point(values, State::Killed), "{shown}");
         }
         Values::Point(PointLine::Marker(values)) => {
             let found = probe::point(&line);
@@ -68,13 +71,14 @@ fn name(bytes: [u8; 16]) -> [u64; 2] {
     [packed(&bytes[..8]), packed(&bytes[8..])]
 }
 
-fn point(values: naive::Point) -> Point {
+fn point(values: naive::Point, state: State) -> Point {
     let Place { name: bytes, number, index } = values.place;
     Point {
         name: name(bytes),
         number: number.into(),
         index: index.into(),
         code: packed(&values.code),
+        state,
         static_correction: values.static_correction,
         depth: values.depth,
         datum: values.datum,
@@ -94,6 +98,7 @@ fn marker(values: Marker, found: Point) -> Point {
         name: name(values.name),
         index: values.index.into(),
         code: packed(b"PM"),
+        state: State::Marker,
         easting: values.easting,
         northing: values.northing,
         elevation: values.elevation,
