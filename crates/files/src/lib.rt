@@ -10,7 +10,6 @@ ghost use Rattle.sets.specs.Paper.{paper};
 ghost use Rattle.words.specs.Buffer.{over};
 ghost use Rattle.files.specs.Reads.{Found};
 ghost use Rattle.files.specs.Report.{part as partOf, fault as faultOf, report as reportOf, told};
-
 use lines::Verdict;
 use sets::Answer;
 

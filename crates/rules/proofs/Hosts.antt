@@ -124,9 +124,11 @@ module _ (M : Medium) (g : Lawful M) where
   pub file-sized : (b : ℕ) (f : List ℕ) → Sized (fileForm b (file f))
   unfolding fileForm oneFile kindAsked rule20
   file-sized b f =
-      answer-sized (oneFile b (file f)) formed
-      ((λ _. asked-listed), λ m. ⊎-elim (λ v. kind-listed M g f _ (inl (v .1)))
-      (λ u. ⊎-elim (λ v. kind-listed M g f _ (inr (inl (v .1)))) (λ v. kind-listed M g f _ (inr (inr (v .1)))) u) (letter-kind b .0 m))
+      answer-sized (oneFile b (file f)) formed (
+        (λ _. asked-listed),
+        λ m. ⊎-elim (λ v. kind-listed M g f _ (inl (v .1)))
+            (λ u. ⊎-elim (λ v. kind-listed M g f _ (inr (inl (v .1)))) (λ v. kind-listed M g f _ (inr (inr (v .1)))) u) (letter-kind b .0 m),
+      )
       (λ _. tt)
 
   module _ (r s x : List ℕ) where
