@@ -15,6 +15,10 @@ pub mod Relations
 pub mod Cover
 pub mod Rows
 pub mod Form
+pub mod Figures
+pub mod Values
+pub mod Spelled
+pub mod Writer
 pub mod Headers
 pub mod Codes
 pub mod Reaches
