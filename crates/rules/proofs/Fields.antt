@@ -72,7 +72,7 @@ unfolding allDigits
 all-digits-is [] = (λ e. tt, λ e. refl)
 all-digits-is (b ∷ bs) = simp (and-is, digit-is, all-digits-is bs) Iff·rfl
 
-digit1-is : (b : ℕ) → (digit1 b ≡ true) ↔ ((49 ≤ b) × (b ≤ 57))
+pub digit1-is : (b : ℕ) → (digit1 b ≡ true) ↔ ((49 ≤ b) × (b ≤ 57))
 unfolding digit1
 digit1-is b = simp says Iff·rfl
 

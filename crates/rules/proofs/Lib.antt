@@ -8,6 +8,10 @@ pub mod Numbers
 pub mod Sizes
 pub mod Spellings
 pub mod Fields
+pub mod Figures
+pub mod Padded
+pub mod Clock
+pub mod Spelled
 pub mod Form
 pub mod Raw
 pub mod Projection

@@ -51,6 +51,10 @@ tenths-pointed P bs n w =
     let l : length bs ≡ length (w .0) + 2 = ap length (w .3) ∙ length-append (w .0) (46 ∷ w .1 ∷ []) in
     simp says (omega arith, ap (λ (cs : List ℕ). getD cs (length bs - 2) 0) (w .3) ∙ getD-at (w .0) 46 (w .1 ∷ []) 0 (length bs - 2) (omega arith))
 
+-- no columns are both
+pub not-both : (bs : List ℕ) (m n : ℕ) → Whole bs m → Tenths Whole bs n → ⊥
+not-both bs m n w t = pointed-is bs (whole-none bs m w) (tenths-pointed Whole bs n t)
+
 same-tenths : {P Q : List ℕ → ℕ → Type 0} → ((ws : List ℕ) (m : ℕ) → P ws m ↔ Q ws m) → (bs : List ℕ) (n : ℕ) → Tenths P bs n ↔ Tenths Q bs n
 same-tenths f bs n = (
   λ w. (w .0, w .1, w .2, w .3, f (w .0) (w .2) .0 (w .4), w .5, w .6),
@@ -70,7 +74,7 @@ some-more : (ds : List ℕ) (d : ℕ) → ds ++ (d ∷ []) ≡ [] → ⊥
 some-more [] d e = let z : _≡_ {A = ℕ} 0 1 = cc in omega arith
 some-more (c ∷ cs) d e = let z : _≡_ {A = ℕ} 0 1 = cc in omega arith
 
-figures-more : (ds : List ℕ) (m d : ℕ) → Figures ds m → Digit d → Figures (ds ++ (d ∷ [])) (10 * m + (d - 48))
+pub figures-more : (ds : List ℕ) (m d : ℕ) → Figures ds m → Digit d → Figures (ds ++ (d ∷ [])) (10 * m + (d - 48))
 figures-more ds m d w h =
     (some-more ds d, digits-more ds d (w .1) h, value-more 0 ds d ∙ ap (λ (n : ℕ). 10 * n + (d - 48)) (w .2))
 
