@@ -12,6 +12,7 @@ pub mod Figures
 pub mod Padded
 pub mod Clock
 pub mod Spelled
+pub mod Goes
 pub mod Form
 pub mod Raw
 pub mod Projection
