@@ -3,9 +3,9 @@ use Prim.Native.Nat.{ℕ, zero, suc, _+_, _-_, _≤_, _<_}
 use native.Mathlib.Nat.{zero-add, suc-add, not-suc-le-zero, le-of-suc-le-suc}
 use native.Mathlib.Omega.{arith}
 use mathlib.Core.Path.{_≡_, refl, ap, _∙_}
-use mathlib.Core.List.{List, [], _∷_}
+use mathlib.Core.List.{List, [], _∷_, _++_}
 use lib.ListN.{length, getD, take, drop}
-use lib.Seq.{drop-drop, drop-nil, getD-drop}
+use lib.Seq.{drop-at, drop-drop, drop-nil, getD-drop}
 use Rattle.rules.specs.Text.{front, col, cols}
 
 -- the first byte, and the rest
@@ -41,6 +41,16 @@ unfolding front
 front-drop zero m l = rw zero-add
 front-drop (suc n) m [] = rw suc-add (front-drop n m [] ∙ ap (front m) (drop-nil n))
 front-drop (suc n) m (x ∷ xs) = rw suc-add (front-drop n m xs)
+
+front-all : (xs ys : List ℕ) → front (length xs) (xs ++ ys) ≡ xs
+unfolding front
+front-all [] ys = refl
+front-all (x ∷ xs) ys = ap (λ (l : List ℕ). x ∷ l) (front-all xs ys)
+
+-- a part between two others
+pub cols-part : (xs ys zs : List ℕ) (a b : ℕ) → length xs + 1 ≡ a → length ys ≡ b + 1 - a → cols (xs ++ (ys ++ zs)) a b ≡ ys
+unfolding cols
+cols-part xs ys zs a b e h = rw (← h, drop-at xs (ys ++ zs) (a - 1) (omega arith)) (front-all ys zs)
 
 module _ (l : List ℕ) (a : ℕ) (o : 1 ≤ a) where
   pub cols-end : (b : ℕ) → b < a → cols l a b ≡ []

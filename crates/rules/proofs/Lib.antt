@@ -13,6 +13,8 @@ pub mod Padded
 pub mod Clock
 pub mod Spelled
 pub mod Goes
+pub mod Tiles
+pub mod Values
 pub mod Form
 pub mod Raw
 pub mod Projection

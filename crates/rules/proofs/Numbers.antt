@@ -104,6 +104,12 @@ whole-is bs n =
     Iff·trans (justified-is digits (plus n) (λ e. no-plus e) (λ e. no-plus e) (λ bs e. blank-digits bs n e) bs)
     (justify (λ ds. digits-are ds n) bs)
 
+pub whole-plus : (bs : List ℕ) (n : ℕ) → whole bs ≡ minus n → ⊥
+unfolding whole
+whole-plus bs n e =
+    let w = justified-is digits (minus n) (λ e. no-minus e) (digits-plus [] n) (λ bs e. digits-plus (32 ∷ bs) n e) bs .0 e in
+    digits-plus (w .1) n (w .3)
+
 negative-plus : (v : Number) (n : ℕ) → negative v ≡ plus n → ⊥
 unfolding negative
 negative-plus malformed n e = no-plus e
