@@ -11,6 +11,7 @@ use Rattle.rules.specs.Kinds.{isTime}
 use Rattle.rules.specs.MeetsFields.{Digit, Digits, valueAfter, Figures, InRange, Time}
 use Rattle.rules.specs.Spelled.{isClock}
 use Rattle.rules.proofs.Tests.{says}
+use Rattle.rules.proofs.Columns.{one-column, no-column}
 use Rattle.rules.proofs.Fields.{time-is}
 
 -- zeros before digits change nothing
@@ -35,14 +36,6 @@ unfolding isClock
 clock-says n = simp says Iff·rfl
 
 -- six columns, one by one
-one-column : (P : List ℕ → Type 0) (n : ℕ) → ((a : ℕ) (bs : List ℕ) → length bs ≡ n → P (a ∷ bs)) → (bs : List ℕ) → length bs ≡ suc n → P bs
-one-column P n f [] h = absurd (omega arith)
-one-column P n f (a ∷ bs) h = f a bs (omega arith)
-
-no-column : (P : List ℕ → Type 0) → P [] → (bs : List ℕ) → length bs ≡ 0 → P bs
-no-column P f [] h = f
-no-column P f (a ∷ bs) h = absurd (omega arith)
-
 six-columns : (P : List ℕ → Type 0) → ((a b c d e f : ℕ) → P (a ∷ b ∷ c ∷ d ∷ e ∷ f ∷ [])) → (bs : List ℕ) → length bs ≡ 6 → P bs
 six-columns P t =
     one-column P 5

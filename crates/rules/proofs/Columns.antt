@@ -8,6 +8,15 @@ use lib.ListN.{length, getD, take, drop}
 use lib.Seq.{drop-at, drop-drop, drop-nil, getD-drop}
 use Rattle.rules.specs.Text.{front, col, cols}
 
+-- columns one by one
+pub one-column : (P : List ℕ → Type 0) (n : ℕ) → ((a : ℕ) (bs : List ℕ) → length bs ≡ n → P (a ∷ bs)) → (bs : List ℕ) → length bs ≡ suc n → P bs
+one-column P n f [] h = absurd (omega arith)
+one-column P n f (a ∷ bs) h = f a bs (omega arith)
+
+pub no-column : (P : List ℕ → Type 0) → P [] → (bs : List ℕ) → length bs ≡ 0 → P bs
+no-column P f [] h = f
+no-column P f (a ∷ bs) h = absurd (omega arith)
+
 -- the first byte, and the rest
 front-step : (n i : ℕ) (l : List ℕ) → front (suc n) (drop i l) ≡ getD l i 0 ∷ front n (drop (suc i) l)
 unfolding front

@@ -15,6 +15,9 @@ pub mod Spelled
 pub mod Goes
 pub mod Tiles
 pub mod Values
+pub mod Printed
+pub mod Written
+pub mod Writer
 pub mod Form
 pub mod Raw
 pub mod Projection

@@ -136,27 +136,37 @@ point-inked : (n : ℕ) → Inked (withPoint n)
 unfolding withPoint
 point-inked n e = decimal-inked (n / 10) (blank-both (decimalOf (n / 10)) _ e .0)
 
-sign-inked : (f : ℕ → List ℕ) → ((n : ℕ) → Inked (f n)) → (z : ℤ) → Inked (bySign f z)
-unfolding bySign blank
-sign-inked f g (pos n) e = g n e
-sign-inked f g (negsuc n) e = clash e
+-- what holds of figures, with and without a point, after a minus and after zeros, holds of every number's spelling
+module _ (P : List ℕ → Type 0) (bare : (n : ℕ) → P (decimalOf n)) (point : (n : ℕ) → P (withPoint n)) (less : (bs : List ℕ) → P bs → P (45 ∷ bs))
+    (zeros : (w : ℕ) (bs : List ℕ) → P bs → P (padded 48 w bs)) where
+  by-sign : (f : ℕ → List ℕ) → ((n : ℕ) → P (f n)) → (z : ℤ) → P (bySign f z)
+  unfolding bySign
+  by-sign f g (pos n) = g n
+  by-sign f g (negsuc n) = less (f (suc n)) (g (suc n))
 
-water-inked : (n : ℕ) → Inked (waterFigures n)
-unfolding waterFigures
-water-inked n = either Inked _ (withPoint n) (decimalOf (n / 10)) (point-inked n) (decimal-inked (n / 10))
+  of-water : (n : ℕ) → P (waterFigures n)
+  unfolding waterFigures
+  of-water n = either P _ (withPoint n) (decimalOf (n / 10)) (point n) (bare (n / 10))
+
+  pub every-spelling : (k : Kind) (w : ℕ) (z : ℤ) → P (spelledAs k w z)
+  unfolding spelledAs
+  every-spelling startsNonBlank w z = by-sign decimalOf bare z
+  every-spelling digitsOnly w z = by-sign decimalOf bare z
+  every-spelling index w z = by-sign decimalOf bare z
+  every-spelling (wholeNumber m n) w z = by-sign decimalOf bare z
+  every-spelling (signedNumber m n) w z = by-sign decimalOf bare z
+  every-spelling (code i) w z = by-sign decimalOf bare z
+  every-spelling (decimalNumber n) w z = by-sign withPoint point z
+  every-spelling (signedDecimal m n) w z = by-sign withPoint point z
+  every-spelling coordinate w z =
+      either P _ (bySign withPoint z) (bySign decimalOf z) (by-sign withPoint point z) (by-sign decimalOf bare z)
+  every-spelling waterDepth w z = by-sign waterFigures of-water z
+  every-spelling time w z = zeros w (bySign decimalOf z) (by-sign decimalOf bare z)
+  every-spelling (mayBeBlank k) w z = every-spelling k w z
+
+minus-inked : (bs : List ℕ) → Inked bs → Inked (45 ∷ bs)
+unfolding blank
+minus-inked bs h e = clash e
 
 pub inked : (k : Kind) (w : ℕ) (z : ℤ) → Inked (spelledAs k w z)
-unfolding spelledAs
-inked startsNonBlank w z = sign-inked decimalOf decimal-inked z
-inked digitsOnly w z = sign-inked decimalOf decimal-inked z
-inked index w z = sign-inked decimalOf decimal-inked z
-inked (wholeNumber m n) w z = sign-inked decimalOf decimal-inked z
-inked (signedNumber m n) w z = sign-inked decimalOf decimal-inked z
-inked (code i) w z = sign-inked decimalOf decimal-inked z
-inked (decimalNumber n) w z = sign-inked withPoint point-inked z
-inked (signedDecimal m n) w z = sign-inked withPoint point-inked z
-inked coordinate w z =
-    either Inked _ (bySign withPoint z) (bySign decimalOf z) (sign-inked withPoint point-inked z) (sign-inked decimalOf decimal-inked z)
-inked waterDepth w z = sign-inked waterFigures water-inked z
-inked time w z = padded-inked 48 w (bySign decimalOf z) (sign-inked decimalOf decimal-inked z)
-inked (mayBeBlank k) w z = inked k w z
+inked = every-spelling Inked decimal-inked point-inked minus-inked (padded-inked 48)

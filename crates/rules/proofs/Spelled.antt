@@ -160,7 +160,7 @@ held-back {k = k} {w = w} f n a h =
     (or-is (blank bs) (fits k bs) .1 (inr (b .0)), pick-is _ _ _ _ .1 ((λ t. absurd (i t)), λ t. b .1))
 
 -- a number's field takes numbers alone
-no-text : {k : Kind} {w : ℕ} → Numeric k w → (bs : List ℕ) → allowsText k bs ≡ true → ⊥
+pub no-text : {k : Kind} {w : ℕ} → Numeric k w → (bs : List ℕ) → allowsText k bs ≡ true → ⊥
 unfolding allowsText
 no-text oneDigit bs e = clash e
 no-text sixDigits bs e = clash e

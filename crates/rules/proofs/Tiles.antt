@@ -45,7 +45,7 @@ Spells l (w ∷ ws) [] = ⊥
 Spells l (w ∷ ws) (v ∷ vs) = (at l (w .columns) ≡ spell (w .kind) (widthOf (w .columns)) v) × Spells l ws vs
 
 -- the first field's test, and the others'
-goes-both : (w : Row) (ws : List Row) (v : Value) (vs : List Value) → writable (w ∷ ws) (v ∷ vs) ≡ true
+pub goes-both : (w : Row) (ws : List Row) (v : Value) (vs : List Value) → writable (w ∷ ws) (v ∷ vs) ≡ true
     → (goesInto (w .kind) (widthOf (w .columns)) v ≡ true) × (writable ws vs ≡ true)
 unfolding writable
 goes-both w ws v vs e = and-is (goesInto (w .kind) (widthOf (w .columns)) v) (writable ws vs) .0 e
