@@ -17,7 +17,9 @@ pub mod Tiles
 pub mod Values
 pub mod Printed
 pub mod Written
-pub mod Writer
+pub mod Letters
+pub mod WrittenPoint
+pub mod WrittenRelation
 pub mod Form
 pub mod Raw
 pub mod Projection
