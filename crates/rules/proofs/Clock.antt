@@ -1,14 +1,14 @@
 -- A time of day: six digits, and the number that they make.
 --   clock-is = the rule of the field is the rule of the number
-use Prim.Native.Nat.{ℕ, zero, suc, _+_, _-_, _*_, _/_, _%_, _≤_, _<_}
+use Prim.Native.Nat.{ℕ, zero, suc, _+_, _*_, _/_, _%_, _≤_, _<_}
 use native.Mathlib.Omega.{arith}
-use mathlib.Core.Path.{_≡_, refl, sym, ap, _∙_}
+use mathlib.Core.Path.{_≡_, refl, _∙_}
 use mathlib.Core.Logic.{_↔_, Iff·rfl, Iff·trans}
-use mathlib.Core.Bool.{Bool, true}
+use mathlib.Core.Bool.{true}
 use mathlib.Core.List.{List, [], _∷_, _++_}
 use lib.ListN.{length, replicate}
 use Rattle.rules.specs.Kinds.{isTime}
-use Rattle.rules.specs.MeetsFields.{Digit, Digits, valueAfter, Figures, InRange, Time}
+use Rattle.rules.specs.MeetsFields.{Digit, Digits, valueAfter, Figures, Time}
 use Rattle.rules.specs.Spelled.{isClock}
 use Rattle.rules.proofs.Tests.{says}
 use Rattle.rules.proofs.Columns.{one-column, no-column}

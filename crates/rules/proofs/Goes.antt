@@ -2,105 +2,50 @@
 --   Goes k w v  = the value is a number that the field takes, and its columns hold it
 --   number-goes = so of the kinds that hold a number
 --   read-goes   = so of every kind
-use Prim.Native.Nat.{ℕ, zero, suc, _+_, _-_, _*_, _/_, _%_, _≤_, _<_}
+use Prim.Native.Nat.{ℕ, _+_, _*_, _%_, _≤_, zero, suc}
 use native.Mathlib.Omega.{arith}
-use mathlib.Core.Path.{_≡_, refl, sym, ap, _∙_}
-use mathlib.Core.Logic.{_⊎_, inl, inr, ⊎-elim}
-use mathlib.Core.Bool.{Bool, true, false, _&&_, _||_}
-use mathlib.Core.List.{List, [], _∷_, _++_}
-use lib.Dec.{leb, eqb}
-use lib.IntN.{ℤ, pos, negsuc, negℤ}
-use lib.ListN.{length, replicate, length-append, length-replicate}
-use borrow.Author.Tests.{le-leb, leb-true, eq-eqb}
+use mathlib.Core.Path.{_≡_, refl, ap}
+use mathlib.Core.Logic.{inl, inr, ⊎-elim, _⊎_}
+use mathlib.Core.Bool.{true, Bool, false, _||_}
+use mathlib.Core.List.{List}
+use lib.IntN.{ℤ, pos, negℤ}
+use lib.ListN.{length}
+use borrow.Author.Tests.{le-leb, eq-eqb}
 use Rattle.rules.specs.Places.{pick}
 use Rattle.rules.specs.Text.{blank}
 use Rattle.rules.specs.Numbers.{plus, whole, signed, tenths, value}
-use Rattle.rules.specs.Kinds.{Kind, startsNonBlank, coordinate, index, waterDepth, time, wholeNumber, signedNumber, signedDecimal}
-use Rattle.rules.specs.Kinds.{decimalNumber, mayBeBlank, isCode, water, fits}
-use Rattle.rules.specs.MeetsFields.{valueAfter, Figures, Whole, Minus, Tenths, Decimal, MinusDecimal}
-use Rattle.rules.specs.Figures.{figures, decimalOf}
-use Rattle.rules.specs.Values.{Value, text, number, nothing, readAs}
-use Rattle.rules.specs.Spelled.{padded, withPoint, bySign, waterFigures, spelledAs, upFrom, fromTo, isClock, isDepth, ofNatural}
-use Rattle.rules.specs.Spelled.{allowsNumber, allowsText, allowsNothing, allows, columnsHold, goesInto}
-use Rattle.rules.proofs.Tests.{says, clash, and-is, or-is, pick-is, yes-no}
+use Rattle.rules.specs.Kinds.{Kind, coordinate, index, waterDepth, wholeNumber, signedNumber, signedDecimal, decimalNumber, mayBeBlank, water}
+use Rattle.rules.specs.Kinds.{fits, isCode}
+use Rattle.rules.specs.MeetsFields.{Whole, valueAfter, Minus, Decimal, MinusDecimal}
+use Rattle.rules.specs.Figures.{decimalOf}
+use Rattle.rules.specs.Values.{Value, number, nothing, readAs}
+use Rattle.rules.specs.Spelled.{withPoint, bySign, spelledAs, upFrom, fromTo, ofNatural, allowsNumber, allowsText, allowsNothing, allows}
+use Rattle.rules.specs.Spelled.{columnsHold, goesInto}
+use Rattle.rules.proofs.Tests.{says, and-is}
 use Rattle.rules.proofs.Numbers.{signed-plus, signed-minus}
 use Rattle.rules.proofs.Spellings.{decimal-whole, decimal-plus, decimal-minus}
-use Rattle.rules.proofs.Fields.{index-value, index-range, kind-is, whole-size, value-plus, value-minus}
-use Rattle.rules.proofs.Figures.{decimal-small, figures-few, digits-grow}
-use Rattle.rules.proofs.Padded.{padded-long, either}
-use Rattle.rules.proofs.Clock.{time-figures, clock-is}
-use Rattle.rules.proofs.Spelled.{Numeric, oneDigit, sixDigits, coordinates, depths, wholes, integers, decimals, eitherSign}
-use Rattle.rules.proofs.Spelled.{Fitting, names, codes, given, ifAny, Printed, name-says, water-small, water-large, water-point, water-metres}
+use Rattle.rules.proofs.Fields.{whole-size, index-value, index-range, kind-is, value-plus, value-minus}
+use Rattle.rules.proofs.Figures.{decimal-small, figures-few}
+use Rattle.rules.proofs.Padded.{padded-long}
+use Rattle.rules.proofs.Clock.{clock-is, time-figures}
+use Rattle.rules.proofs.Fitting.{Numeric, oneDigit, sixDigits, coordinates, depths, wholes, integers, decimals, eitherSign, Fitting, names}
+use Rattle.rules.proofs.Fitting.{codes, given, ifAny, Printed, name-says}
+use Rattle.rules.proofs.Short.{minus-few, point-few, whole-few, coordinate-short, minus-short, point-grow, minus-point-few}
+use Rattle.rules.proofs.Water.{water-point, water-metres, water-short, depth-is}
 
 abbrev Goes : Kind → ℕ → Value → Type 0
 Goes k w v = (n : ℤ) × (v ≡ number n) × (allowsNumber k n ≡ true) × (length (spelledAs k w n) ≤ w)
-
--- how short a number's spelling is
-whole-few : (bs : List ℕ) (n : ℕ) → Whole bs n → length (decimalOf n) ≤ length bs
-whole-few bs n w = rw (w .2, length-append) (let f = figures-few (w .1) n (w .3) in omega arith)
-
-minus-few : (bs : List ℕ) (n : ℕ) → Minus bs n → suc (length (decimalOf n)) ≤ length bs
-minus-few bs n w = let q = w .3 in rw (w .2, length-append, q .1) (let f = figures-few (q .0) n (q .2) in omega arith)
-
-point-long : (n : ℕ) → length (withPoint n) ≡ length (decimalOf (n / 10)) + 2
-unfolding withPoint
-point-long n = length-append (decimalOf (n / 10)) _
-
-tenths-few : (P : List ℕ → ℕ → Type 0) (c : ℕ) → ((ws : List ℕ) (m : ℕ) → P ws m → c + length (decimalOf m) ≤ length ws)
-    → (bs : List ℕ) (n : ℕ) → Tenths P bs n → c + length (withPoint n) ≤ length bs
-tenths-few P c f bs n w =
-    let d = w .5 in
-    let e = w .6 in
-    let z : n / 10 ≡ w .2 = omega arith in
-    rw (w .3, length-append, point-long n, z) (let g = f (w .0) (w .2) (w .4) in omega arith)
-
-point-few : (bs : List ℕ) (n : ℕ) → Tenths Whole bs n → 0 + length (withPoint n) ≤ length bs
-point-few = tenths-few Whole 0 (λ ws m a. let g = whole-few ws m a in omega arith)
-
-minus-point-few : (bs : List ℕ) (n : ℕ) → Tenths Minus bs n → 1 + length (withPoint n) ≤ length bs
-minus-point-few = tenths-few Minus 1 (λ ws m a. let g = minus-few ws m a in omega arith)
-
-point-grow : (m n : ℕ) → m ≤ n → length (withPoint m) ≤ length (withPoint n)
-point-grow m n h = rw (point-long m, point-long n) (let g = digits-grow (m / 10) (n / 10) (omega arith) in omega arith)
-
-minus-short : (f : ℕ → List ℕ) (w n : ℕ) → suc (length (f n)) ≤ w → length (bySign f (negℤ (pos n))) ≤ w
-unfolding bySign
-minus-short f w zero h = omega arith
-minus-short f w (suc n) h = h
 
 minus-allowed : (m n k : ℕ) → k ≤ m → fromTo m n (negℤ (pos k)) ≡ true
 unfolding fromTo
 minus-allowed m n zero h = le-leb 0 n (omega arith)
 minus-allowed m n (suc k) h = le-leb (suc k) m h
 
--- either spelling of a coordinate: with its point where that goes into the columns
-coordinate-short : (p d : List ℕ) (w : ℕ) → (length p ≤ w) ⊎ (length d ≤ w) → length (pick (leb (length p) w) p d) ≤ w
-unfolding pick
-coordinate-short p d w h = go (leb (length p) w) refl
-  where
-    go : (t : Bool) → leb (length p) w ≡ t → length (pick t p d) ≤ w
-    go true e = leb-true (length p) w e
-    go false e = ⊎-elim (λ l. clash (sym e ∙ le-leb (length p) w l)) (λ l. l) h
-
-water-short : (n : ℕ) → n ≤ 9990 → length (waterFigures n) ≤ 4
-unfolding withPoint decimalOf figures pick
-water-short n h =
-    yes-no (leb n 999)
-    (λ t. let g = leb-true n 999 t in rw (water-small n g) (point-grow n 999 g))
-    (λ t.
-    let g : n ≤ 999 → ⊥ = λ g. t (le-leb n 999 g) in
-    rw (water-large n (omega arith)) (let l : length (decimalOf (n / 10)) ≤ 3 = digits-grow (n / 10) 999 (omega arith) in omega arith))
-
-depth-allowed : (n : ℕ) → (n ≤ 999) ⊎ ((n ≤ 9990) × (n % 10 ≡ 0)) → isDepth n ≡ true
-unfolding isDepth
-depth-allowed n h =
-    or-is (leb n 999) (leb n 9990 && eqb (n % 10) 0) .1
-    (⊎-elim (λ a. inl (le-leb n 999 a)) (λ a. inr (and-is (leb n 9990) _ .1 (le-leb n 9990 (a .0), eq-eqb (n % 10) 0 (a .1)))) h)
-
+-- a depth of water, whichever way it is written
 module _ (bs : List ℕ) (w n : ℕ) (f : 4 ≤ w) (e : water bs ≡ plus n) where
   depth-goes : n ≤ 9990 → (n ≤ 999) ⊎ ((n ≤ 9990) × (n % 10 ≡ 0)) → Goes waterDepth w (readAs waterDepth bs)
   unfolding readAs allowsNumber spelledAs ofNatural bySign value
-  depth-goes h d = (pos n, rw e, depth-allowed n d, (let g = water-short n h in omega arith))
+  depth-goes h d = (pos n, rw e, depth-is n .1 d, (let g = water-short n h in omega arith))
 
 number-goes : {k : Kind} {w : ℕ} → Numeric k w → (bs : List ℕ) → length bs ≡ w → fits k bs ≡ true → Goes k w (readAs k bs)
 unfolding fits readAs allowsNumber spelledAs upFrom fromTo ofNatural bySign

@@ -11,6 +11,9 @@ pub mod Fields
 pub mod Figures
 pub mod Padded
 pub mod Clock
+pub mod Fitting
+pub mod Short
+pub mod Water
 pub mod Spelled
 pub mod Goes
 pub mod Tiles

@@ -3,9 +3,9 @@
 --   asNumber z                     = a signed number as a field holds it
 --   whole-back .. bare-back        = what is written is read, with and without a point
 --   inked                          = no number is blanks alone
-use Prim.Native.Nat.{ℕ, zero, suc, _+_, _-_, _*_, _/_, _%_, _≤_}
+use Prim.Native.Nat.{ℕ, suc, _+_, _-_, _/_, _%_, _≤_}
 use native.Mathlib.Omega.{arith}
-use mathlib.Core.Path.{_≡_, refl, sym, ap, _∙_}
+use mathlib.Core.Path.{_≡_, refl, sym}
 use mathlib.Core.Logic.{inl, inr}
 use mathlib.Core.Bool.{Bool, true, false}
 use mathlib.Core.List.{List, [], _∷_, _++_, append-assoc}
@@ -89,10 +89,10 @@ module _ (w : ℕ) where
   signed-back (pos n) = signed-plus _ n .1 (padded-whole w n)
   signed-back (negsuc n) = signed-minus _ (suc n) .1 (padded-minus w (suc n))
 
-  pub point-back : (z : ℤ) → tenths signed (padded 32 w (bySign withPoint z)) ≡ asNumber z
+  pub pointed-back : (z : ℤ) → tenths signed (padded 32 w (bySign withPoint z)) ≡ asNumber z
   unfolding bySign
-  point-back (pos n) = decimal-plus _ n .1 (inr (whole-tenths w n))
-  point-back (negsuc n) = decimal-minus _ (suc n) .1 (inr (minus-tenths w (suc n)))
+  pointed-back (pos n) = decimal-plus _ n .1 (inr (whole-tenths w n))
+  pointed-back (negsuc n) = decimal-minus _ (suc n) .1 (inr (minus-tenths w (suc n)))
 
   pub bare-back : (z : ℤ) → tenths signed (padded 32 w (bySign decimalOf z)) ≡ asNumber z
   unfolding bySign

@@ -1,17 +1,17 @@
 -- What is written is printed: every byte of a field, of whatever kind.
 --   Prints bs       = each byte is printed, said byte by byte; Printed has it by places
 --   spelled-prints  = each byte of a written field is
-use Prim.Native.Nat.{ℕ, zero, suc, _-_, _/_, _%_, _≤_, _<_}
+use Prim.Native.Nat.{ℕ, zero, suc, _-_, _/_, _%_, _≤_}
 use Prim.Native.String.{String, [] as empty, _∷_ as _∷ₛ_}
 use Prim.Native.Char.{code as ascii}
 use native.Mathlib.Nat.{not-suc-le-zero, le-of-suc-le-suc}
 use native.Mathlib.Omega.{arith}
-use mathlib.Core.Path.{_≡_, refl, sym, ap, _∙_, subst}
+use mathlib.Core.Path.{_≡_, refl, sym, subst}
 use mathlib.Core.Logic.{⊎-elim}
 use mathlib.Core.Bool.{true}
 use mathlib.Core.List.{List, [], _∷_, _++_}
 use lib.IntN.{ℤ}
-use lib.ListN.{length, getD, replicate}
+use lib.ListN.{length, replicate}
 use borrow.Author.Tests.{eqb-true, eq-eqb}
 use lib.Dec.{eqb}
 use Rattle.rules.specs.Text.{col, bytes}
@@ -26,7 +26,7 @@ use Rattle.rules.proofs.Columns.{one-column, no-column}
 use Rattle.rules.proofs.Fields.{code-is}
 use Rattle.rules.proofs.Figures.{decimal-figures}
 use Rattle.rules.proofs.Padded.{every-spelling}
-use Rattle.rules.proofs.Spelled.{Fitting, names, codes, given, ifAny, Printed, name-says, no-text}
+use Rattle.rules.proofs.Fitting.{Fitting, names, codes, given, ifAny, Printed, name-says, no-text}
 
 abbrev pub Prints : List ℕ → Type 0
 Prints [] = Unit {0}

@@ -1,56 +1,36 @@
 -- What is written into a field is read from it: over every kind of field, its width and the value.
---   Numeric k w   = a field of kind k has a number in w columns
---   Fitting k w   = a field of kind k can stand in w columns: a number, one that may be blank, a name or a code
 --   spelled-long  = the field has its width
 --   spelled-fits  = it obeys the rule of its kind
 --   spelled-reads = the value is read from it
-use Prim.Native.Nat.{ℕ, suc, _+_, _-_, _*_, _/_, _%_, _≤_, _<_}
+use Prim.Native.Nat.{ℕ, _+_, _-_, _≤_}
 use native.Mathlib.Nat.{sub-zero}
 use native.Mathlib.Omega.{arith}
-use mathlib.Core.Path.{_≡_, refl, sym, ap, _∙_, subst}
-use mathlib.Core.Logic.{_↔_, Iff·rfl, inl, inr, ⊎-elim}
-use mathlib.Core.Bool.{Bool, true, false, _&&_}
-use mathlib.Core.List.{List, [], _∷_, _++_, append-nil}
-use lib.Dec.{eqb, leb}
+use mathlib.Core.Path.{_≡_, refl, ap, _∙_}
+use mathlib.Core.Logic.{inl, inr}
+use mathlib.Core.Bool.{true}
+use mathlib.Core.List.{List, [], append-nil}
+use lib.Dec.{leb}
 use lib.IntN.{ℤ, pos, negsuc}
-use lib.ListN.{length, getD, replicate, length-replicate}
-use borrow.Author.Tests.{eqb-true, leb-true, le-leb, lt-leb, ne-eqb}
+use lib.ListN.{length, replicate, length-replicate}
+use borrow.Author.Tests.{eqb-true, leb-true, ne-eqb}
 use Rattle.rules.specs.Places.{pick}
 use Rattle.rules.specs.Text.{col, blank}
-use Rattle.rules.specs.Numbers.{Number, plus, minus, whole, signed, tenths, decimal, then, size, value}
-use Rattle.rules.specs.Kinds.{Kind, startsNonBlank, digitsOnly, coordinate, index, waterDepth, time, wholeNumber, signedNumber}
-use Rattle.rules.specs.Kinds.{signedDecimal, decimalNumber, code, mayBeBlank, formed, between, within, digit1, indexOf, water, isTime, fits}
-use Rattle.rules.specs.MeetsFields.{Figures, Whole, Tenths}
-use Rattle.rules.specs.Disc.{printable}
-use Rattle.rules.specs.Figures.{figure, decimalOf}
+use Rattle.rules.specs.Numbers.{signed, tenths, size, value}
+use Rattle.rules.specs.Kinds.{Kind, index, time, mayBeBlank, formed, between, within, indexOf, fits}
+use Rattle.rules.specs.MeetsFields.{Figures}
+use Rattle.rules.specs.Figures.{decimalOf}
 use Rattle.rules.specs.Values.{Value, text, number, nothing, readAs}
-use Rattle.rules.specs.Spelled.{padded, withPoint, bySign, waterFigures, spelledAs, spelled, spell, upFrom, fromTo, isClock, isDepth}
-use Rattle.rules.specs.Spelled.{ofNatural, allowsNumber, allowsText, allowsNothing, allows, columnsHold, goesInto}
-use Rattle.rules.proofs.Tests.{says, clash, every-is, and-is, or-is, pick-is, yes-no}
-use Rattle.rules.proofs.Numbers.{whole-is}
-use Rattle.rules.proofs.Spellings.{not-both, pointed-whole}
-use Rattle.rules.proofs.Fields.{between-is, blank-is, digit1-is, whole-size}
+use Rattle.rules.specs.Spelled.{padded, withPoint, bySign, spelledAs, spelled, spell, upFrom, fromTo, isClock, ofNatural, allowsNumber}
+use Rattle.rules.specs.Spelled.{allowsText, allowsNothing, allows, columnsHold, goesInto}
+use Rattle.rules.proofs.Tests.{says, clash, and-is, or-is, pick-is}
+use Rattle.rules.proofs.Fields.{blank-is, digit1-is, whole-size}
 use Rattle.rules.proofs.Figures.{decimal-small, decimal-figures}
-use Rattle.rules.proofs.Padded.{padded-long, padded-least, padded-full, padded-whole, whole-tenths, asNumber, value-as, whole-back, tenths-back, signed-back, point-back, bare-back}
-use Rattle.rules.proofs.Padded.{either, Inked, padded-inked, inked}
+use Rattle.rules.proofs.Padded.{padded-long, padded-least, padded-full, asNumber, value-as, whole-back, tenths-back, signed-back, pointed-back}
+use Rattle.rules.proofs.Padded.{bare-back, either, padded-inked, inked}
 use Rattle.rules.proofs.Clock.{zeros-figures, clock-is}
-
--- a number's kind in that many columns; the ends of a decimal's range go into them with a point
-pub data Numeric : Kind → ℕ → Type 0 where
-  oneDigit : Numeric index 1
-  sixDigits : Numeric time 6
-  coordinates : {w : ℕ} → Numeric coordinate w
-  depths : {w : ℕ} → 4 ≤ w → Numeric waterDepth w
-  wholes : {m n w : ℕ} → Numeric (wholeNumber m n) w
-  integers : {m n w : ℕ} → Numeric (signedNumber m n) w
-  decimals : {n w : ℕ} → length (withPoint n) ≤ w → Numeric (decimalNumber n) w
-  eitherSign : {m n w : ℕ} → length (withPoint m) < w → length (withPoint n) ≤ w → Numeric (signedDecimal m n) w
-
-pub data Fitting : Kind → ℕ → Type 0 where
-  names : {w : ℕ} → Fitting startsNonBlank w
-  codes : {i : ℕ} → Fitting (code i) 2
-  given : {k : Kind} {w : ℕ} → Numeric k w → Fitting k w
-  ifAny : {k : Kind} {w : ℕ} → Numeric k w → Fitting (mayBeBlank k) w
+use Rattle.rules.proofs.Fitting.{Numeric, oneDigit, sixDigits, coordinates, depths, wholes, integers, decimals, eitherSign, Fitting, names}
+use Rattle.rules.proofs.Fitting.{codes, given, ifAny, name-says, no-text, not-absent}
+use Rattle.rules.proofs.Water.{water-back}
 
 -- the columns hold the value
 module _ (k : Kind) (w : ℕ) where
@@ -95,44 +75,6 @@ time-back n a b =
     let l : length zs ≡ 6 = omega (arith, padded-least 48 6 (decimalOf n)) in
     rw (padded-full 32 6 zs l) (clock-is zs n l f .1 a, ap (λ (m : ℕ). number (pos m)) (whole-size zs n (0, zs, refl, f)))
 
-pub water-small : (n : ℕ) → n ≤ 999 → waterFigures n ≡ withPoint n
-unfolding waterFigures pick
-water-small n h = rw (le-leb n 999 h)
-
-pub water-large : (n : ℕ) → 999 < n → waterFigures n ≡ decimalOf (n / 10)
-unfolding waterFigures pick
-water-large n h = rw (lt-leb n 999 h)
-
-pub water-point : (bs : List ℕ) (n : ℕ) → Tenths Whole bs n → n ≤ 999 → water bs ≡ plus n
-unfolding water
-water-point bs n w h =
-    let e = pointed-whole bs n .1 w in
-    pick-is _ _ _ _ .1 ((λ t. e), λ t. absurd (t (between-is 0 999 (decimal whole bs) .1 (n, e, omega arith, h))))
-
-pub water-metres : (bs : List ℕ) (m : ℕ) → Whole bs m → m ≤ 999 → water bs ≡ plus (10 * m + 0)
-unfolding water then
-water-metres bs m w h =
-    let e = whole-is bs m .1 w in
-    pick-is _ _ _ _ .1 (
-      (λ t.
-      let b = between-is 0 999 (decimal whole bs) .0 t in
-      absurd (not-both bs m (b .0) w (pointed-whole bs (b .0) .0 (b .1)))),
-      λ t. pick-is _ _ _ _ .1 ((λ u. rw e), λ u. absurd (u (between-is 0 999 (whole bs) .1 (m, e, omega arith, h)))),
-    )
-
-water-back : (w n : ℕ) → isDepth n ≡ true → water (padded 32 w (waterFigures n)) ≡ plus n
-unfolding isDepth
-water-back w n e =
-    yes-no (leb n 999)
-    (λ t. let h = leb-true n 999 t in rw (water-small n h) (water-point _ n (whole-tenths w n) h))
-    (λ t.
-    let h : n ≤ 999 → ⊥ = λ h. t (le-leb n 999 h) in
-    let b : (n ≤ 9990) × (n % 10 ≡ 0) = ⊎-elim (λ u. absurd (t u)) (λ u. simp says at u) (or-is (leb n 999) _ .0 e) in
-    rw (water-large n (omega arith)) (
-      water-metres _ (n / 10) (padded-whole w (n / 10)) (omega arith)
-      ∙ ap plus (let z : 10 * (n / 10) + 0 ≡ n = omega arith in z)
-    ))
-
 number-back : {k : Kind} {w : ℕ} → Numeric k w → (n : ℤ) → allowsNumber k n ≡ true → length (spelledAs k w n) ≤ w → Back k w n
 unfolding spelledAs allowsNumber upFrom ofNatural fits readAs between size value bySign formed
 number-back oneDigit (pos n) a h = let b = simp says at a in index-back n (b .0) (b .1)
@@ -144,9 +86,9 @@ number-back wholes (negsuc n) a h = clash a
 number-back (integers {m = x} {n = y} {w = w}) n a h = rw (signed-back w n, value-as n) (within-as x y n ∙ a, refl)
 number-back (decimals {w = w} f) (pos n) a h = rw (tenths-back w n) (a, refl)
 number-back (decimals f) (negsuc n) a h = clash a
-number-back (eitherSign {m = x} {n = y} {w = w} f g) n a h = rw (point-back w n, value-as n) (within-as x y n ∙ a, refl)
+number-back (eitherSign {m = x} {n = y} {w = w} f g) n a h = rw (pointed-back w n, value-as n) (within-as x y n ∙ a, refl)
 number-back (coordinates {w = w}) n a h =
-    let e = either (λ (l : List ℕ). tenths signed (padded 32 w l) ≡ asNumber n) (leb (length (bySign withPoint n)) w) _ _ (point-back w n) (bare-back w n) in
+    let e = either (λ (l : List ℕ). tenths signed (padded 32 w l) ≡ asNumber n) (leb (length (bySign withPoint n)) w) _ _ (pointed-back w n) (bare-back w n) in
     rw (e, value-as n) (formed-as n, refl)
 number-back (depths {w = w} f) (pos n) a h = rw (water-back w n a) (refl, refl)
 number-back (depths f) (negsuc n) a h = clash a
@@ -159,41 +101,10 @@ held-back {k = k} {w = w} f n a h =
     let i = padded-inked 32 w (spelledAs k w n) (inked k w n) in
     (or-is (blank bs) (fits k bs) .1 (inr (b .0)), pick-is _ _ _ _ .1 ((λ t. absurd (i t)), λ t. b .1))
 
--- a number's field takes numbers alone
-pub no-text : {k : Kind} {w : ℕ} → Numeric k w → (bs : List ℕ) → allowsText k bs ≡ true → ⊥
-unfolding allowsText
-no-text oneDigit bs e = clash e
-no-text sixDigits bs e = clash e
-no-text coordinates bs e = clash e
-no-text (depths f) bs e = clash e
-no-text wholes bs e = clash e
-no-text integers bs e = clash e
-no-text (decimals f) bs e = clash e
-no-text (eitherSign f g) bs e = clash e
-
-not-absent : {k : Kind} {w : ℕ} → Numeric k w → allowsNothing k ≡ true → ⊥
-unfolding allowsNothing
-not-absent oneDigit e = clash e
-not-absent sixDigits e = clash e
-not-absent coordinates e = clash e
-not-absent (depths f) e = clash e
-not-absent wholes e = clash e
-not-absent integers e = clash e
-not-absent (decimals f) e = clash e
-not-absent (eitherSign f g) e = clash e
-
 -- blanks alone
-pub blanks-blank : (n : ℕ) → blank (padded 32 n []) ≡ true
+blanks-blank : (n : ℕ) → blank (padded 32 n []) ≡ true
 unfolding padded
 blanks-blank n = rw (append-nil, sub-zero) (blank-is (replicate n 32) .1 (rw length-replicate))
-
--- every byte of a name is printed, and its first column is not blank
-abbrev pub Printed : List ℕ → Type 0
-Printed bs = (i : ℕ) → i < length bs → printable (getD bs i 0) ≡ true
-
-pub name-says : (bs : List ℕ) → (allowsText startsNonBlank bs ≡ true) ↔ (Printed bs × (fits startsNonBlank bs ≡ true))
-unfolding allowsText fits
-name-says bs = simp (and-is, every-is) Iff·rfl
 
 -- the two parts of the test
 goes : (k : Kind) (w : ℕ) (v : Value) → goesInto k w v ≡ true → (allows k v ≡ true) × (columnsHold k w v ≡ true)

@@ -7,28 +7,28 @@
 --   rows-read     = the values are read from it
 --   rows-fit      = each field obeys its rule
 --   rows-go       = what is read from fields that obey their rules can be written
-use Prim.Native.Nat.{ℕ, suc, _+_, _-_, _≤_, _<_}
+use Prim.Native.Nat.{ℕ, _+_, _≤_, _<_}
 use native.Mathlib.Omega.{arith}
-use mathlib.Core.Path.{_≡_, refl, sym, ap, _∙_, subst}
+use mathlib.Core.Path.{_≡_, refl}
 use mathlib.Core.Bool.{Bool, true, not, _&&_}
 use mathlib.Core.List.{List, [], _∷_, _++_, append-assoc}
 use lib.ListN.{length, length-append}
 use Rattle.rules.specs.Text.{col}
 use Rattle.rules.specs.Disc.{printable}
 use Rattle.rules.specs.Layout.{Span, at, sps93}
-use Rattle.rules.specs.Kinds.{fits}
 use Rattle.rules.specs.Rows.{Row, pointRows, relationRows}
 use Rattle.rules.specs.Form.{fieldsFit}
 use Rattle.rules.specs.Places.{pick}
 use Rattle.rules.specs.Figures.{figures, decimalOf}
-use Rattle.rules.specs.Values.{Value, readAs, readRows}
+use Rattle.rules.specs.Values.{Value, readRows}
 use Rattle.rules.specs.Spelled.{withPoint, spell, goesInto}
-use Rattle.rules.specs.Writer.{widthOf, joined, writable, lineOf}
+use Rattle.rules.specs.Writer.{widthOf, joined, writable}
 use Rattle.rules.proofs.Tests.{clash, and-is, not-is}
 use Rattle.rules.proofs.Breach.{Met}
 use Rattle.rules.proofs.Columns.{cols-part, cols-length, cols-at}
-use Rattle.rules.proofs.Spelled.{Fitting, names, codes, given, ifAny, oneDigit, sixDigits, coordinates, depths, wholes, integers, decimals, eitherSign}
-use Rattle.rules.proofs.Spelled.{Printed, spelled-long, spelled-fits, spelled-reads}
+use Rattle.rules.proofs.Fitting.{Fitting, names, codes, given, ifAny, oneDigit, sixDigits, coordinates, depths, wholes, integers, decimals, eitherSign}
+use Rattle.rules.proofs.Fitting.{Printed}
+use Rattle.rules.proofs.Spelled.{spelled-long, spelled-fits, spelled-reads}
 use Rattle.rules.proofs.Goes.{read-goes}
 
 abbrev pub Tiles : ℕ → List Row → ℕ → Type 0
@@ -141,6 +141,10 @@ unfolding withPoint decimalOf figures pick
 elevation-ends = omega arith
 
 -- the two tables
+infixr 40 _then_
+abbrev _then_ : {A B : Type 0} → A → B → A × B
+a then b = (a, b)
+
 pub point-tiles : (i : ℕ) → Tiles 2 (pointRows sps93 i) 81
 unfolding pointRows sps93
 point-tiles i = omega arith
@@ -152,9 +156,12 @@ relation-tiles = omega arith
 pub point-fittings : (i : ℕ) → Fittings (pointRows sps93 i)
 unfolding pointRows sps93
 point-fittings i =
-    (names, (given wholes, (given oneDigit, (codes, (ifAny integers, (given (decimals depth-ends), (given integers, (ifAny wholes, (ifAny (depths {w = 4} (omega arith)), (given coordinates, (given coordinates, (given (eitherSign (elevation-ends .0) (elevation-ends .1)), (given wholes, (given sixDigits, tt))))))))))))))
+    names then given wholes then given oneDigit then codes then ifAny integers then given (decimals depth-ends) then given integers then
+    ifAny wholes then ifAny (depths {w = 4} (omega arith)) then given coordinates then given coordinates then
+    given (eitherSign (elevation-ends .0) (elevation-ends .1)) then given wholes then given sixDigits then tt
 
 pub relation-fittings : Fittings (relationRows sps93)
 unfolding relationRows sps93
 relation-fittings =
-    (names, (given wholes, (given oneDigit, (given oneDigit, (names, (given wholes, (given oneDigit, (given wholes, (given wholes, (given oneDigit, (names, (given wholes, (given wholes, (given oneDigit, tt))))))))))))))
+    names then given wholes then given oneDigit then given oneDigit then names then given wholes then given oneDigit then given wholes then
+    given wholes then given oneDigit then names then given wholes then given wholes then given oneDigit then tt

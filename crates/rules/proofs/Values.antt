@@ -4,11 +4,10 @@
 use Prim.Native.Nat.{ℕ}
 use mathlib.Core.Path.{_≡_, refl, sym, ap, _∙_}
 use mathlib.Core.Bool.{Bool, true, false}
-use mathlib.Core.List.{List, [], _∷_}
+use mathlib.Core.List.{List, []}
 use lib.IntN.{ℤ, pos, natAbs}
 use lib.ListN.{getD}
 use Rattle.rules.specs.Places.{pick}
-use Rattle.rules.specs.Text.{blank}
 use Rattle.rules.specs.Numbers.{Number, malformed, plus, minus, whole, size, value}
 use Rattle.rules.specs.Names.{Name, text as named}
 use Rattle.rules.specs.Layout.{Layout, at}

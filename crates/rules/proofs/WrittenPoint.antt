@@ -1,8 +1,9 @@
 -- A written point line: it is read as its point, what is read from a line that meets 5 can be written, and what is written meets 5.
 --   point-back, point-row        = the line is read as the point, with its CR and LF and without
---   point-again                  = the point of a line that meets 5 can be written
 --   point-formed                 = the line is printed, and CR and LF end it
 --   point-meets, point-row-meets = it meets 5, with them and without
+--   point-same                   = read and written, it comes back byte for byte
+--   point-again, point-kept      = the point of any line that meets 5 can be written, and is read from what is written
 use Prim.Native.Nat.{ℕ, _≤_}
 use native.Mathlib.Omega.{arith}
 use mathlib.Core.Path.{_≡_, refl, ap, _∙_}
@@ -56,19 +57,10 @@ state-kept l h = let c = at l (sps93 .code) in state-same (stateOf c) (λ e. h (
 -- what the writer asks of a point
 point-says : (b : ℕ) (p : Point)
     → (pointWrites b p ≡ true)
-    ↔ (((fileR ≤ kindOf b) × (kindOf b ≤ fileS)) × ((sameState (stateOf (p .code)) (p .state) ≡ true) × (writable (pointRows sps93 (kindOf b)) (pointValues p) ≡ true)))
+    ↔ (((fileR ≤ kindOf b) × (kindOf b ≤ fileS))
+    × ((sameState (stateOf (p .code)) (p .state) ≡ true) × (writable (pointRows sps93 (kindOf b)) (pointValues p) ≡ true)))
 unfolding pointWrites
 point-says b p = simp says Iff·rfl
-
--- a line of file i that meets 5
-pub point-again : (i k : ℕ) (l : List ℕ) → fileR ≤ i → i ≤ fileS → PrintedTo 81 l → col l letterColumn ≡ letter i → (isMarker sps93 l ≡ true → ⊥)
-    → Met (rule5 i sps93 k l) → pointWrites (letter i) (point sps93 l) ≡ true
-unfolding point
-point-again i k l o h p c m g =
-    let f = point-5 i k l (no-header i l c) (λ e. omega arith) .0 g in
-    let r = rows-go l i k (isMarker sps93 l) m 2 81 (pointRows sps93 i) (point-tiles i) (omega arith) (point-fittings i) p f in
-    point-says (letter i) (point sps93 l) .1
-    (rw (kind-letter i o h) ((o, h), (state-kept l m, rw (point-values sps93 i l) r)))
 
 -- a point of file i that goes into its fields; zs is what follows them
 module _ (i : ℕ) (p : Point) (g : writable (pointRows sps93 i) (pointValues p) ≡ true) where
@@ -114,3 +106,22 @@ module _ (b : ℕ) (p : Point) (e : pointWrites b p ≡ true) where
 
   pub point-row-meets : (k : ℕ) → Met (rule5 (kindOf b) sps93 k (take 80 (pointLine (kindOf b) p)))
   point-row-meets k = rw (row-is (kindOf b) p goes) (met-from (kindOf b) p goes (point-says b p .0 e .0 .1) k [])
+
+  -- a line in this spelling comes back byte for byte
+  pub point-same : pointLine (kindOf b) (point sps93 (take 80 (pointLine (kindOf b) p))) ≡ pointLine (kindOf b) p
+  point-same = rw point-row
+
+-- a line of file i, no marker, that meets 5
+module _ (i k : ℕ) (l : List ℕ) (o : fileR ≤ i) (h : i ≤ fileS) (p : PrintedTo 81 l) (c : col l letterColumn ≡ letter i)
+    (m : isMarker sps93 l ≡ true → ⊥) (g : Met (rule5 i sps93 k l)) where
+  pub point-again : pointWrites (letter i) (point sps93 l) ≡ true
+  unfolding point
+  point-again =
+      let f = point-5 i k l (no-header i l c) (λ e. omega arith) .0 g in
+      let r = rows-go l i k (isMarker sps93 l) m 2 81 (pointRows sps93 i) (point-tiles i) (omega arith) (point-fittings i) p f in
+      point-says (letter i) (point sps93 l) .1
+      (rw (kind-letter i o h) ((o, h), (state-kept l m, rw (point-values sps93 i l) r)))
+
+  -- it comes back in this spelling, with the same values
+  pub point-kept : point sps93 (take 80 (pointLine i (point sps93 l))) ≡ point sps93 l
+  point-kept = rw (kind-letter i o h) at (point-row (letter i) (point sps93 l) point-again)

@@ -1,14 +1,15 @@
 -- A written relation line: it is read as its relation, what is read from a line that meets 5 and 6 can be written, and what is written meets both.
 --   counted-is                         = the writer's 6 is 6 of a line
 --   relation-back, relation-row        = the line is read as the relation, with its CR and LF and without
---   relation-again                     = the relation of a line that meets 5 and 6 can be written
 --   relation-formed                    = the line is printed, and CR and LF end it
 --   relation-meets, relation-row-meets = it meets 5 and 6, with them and without
+--   relation-same                      = read and written, it comes back byte for byte
+--   relation-again, relation-kept      = the relation of any line that meets 5 and 6 can be written, and is read from what is written
 use Prim.Native.Nat.{ℕ}
 use native.Mathlib.Omega.{arith}
-use mathlib.Core.Path.{_≡_, refl, sym, ap, _∙_}
-use mathlib.Core.Logic.{_↔_, Iff·rfl, Iff·trans}
-use mathlib.Core.Bool.{Bool, true, false}
+use mathlib.Core.Path.{_≡_, refl, ap, _∙_}
+use mathlib.Core.Logic.{_↔_, Iff·trans}
+use mathlib.Core.Bool.{true, false}
 use mathlib.Core.List.{List, [], _∷_}
 use lib.ListN.{take}
 use Rattle.rules.specs.Plan.{fileX, Verdict, fine, refused, run}
@@ -18,7 +19,6 @@ use Rattle.rules.specs.Lines.{letter}
 use Rattle.rules.specs.Relations.{Reach, Relation, reach, relation}
 use Rattle.rules.specs.Rows.{relationRows}
 use Rattle.rules.specs.Form.{rule5, rule6}
-use Rattle.rules.specs.MeetsForm.{Counted}
 use Rattle.rules.specs.Values.{relationValues}
 use Rattle.rules.specs.Writer.{writable, lineOf, relationLine, counted, relationWrites}
 use Rattle.rules.proofs.Tests.{clash, and-is}
@@ -39,7 +39,7 @@ run-counted : (q : Reach) → (counted q ≡ true) ↔ (run (rule6 sps93 0 q) �
 unfolding counted
 run-counted q = (λ t. no-refusal q (run (rule6 sps93 0 q)) t refl, λ e. rw e)
 
-counted-is : (k : ℕ) (q : Reach) → (counted q ≡ true) ↔ Met (rule6 sps93 k q)
+pub counted-is : (k : ℕ) (q : Reach) → (counted q ≡ true) ↔ Met (rule6 sps93 k q)
 counted-is k q =
     Iff·trans (run-counted q)
     (Iff·trans (run-met (rule6 sps93 0 q))
@@ -49,15 +49,6 @@ relation-says : (v : Relation)
     → (relationWrites v ≡ true) ↔ ((writable (relationRows sps93) (relationValues v) ≡ true) × (counted (v .reach) ≡ true))
 unfolding relationWrites
 relation-says v = and-is (writable (relationRows sps93) (relationValues v)) (counted (v .reach))
-
--- a line of X that meets 5 and 6
-pub relation-again : (k : ℕ) (l : List ℕ) → PrintedTo 81 l → col l letterColumn ≡ letter fileX → Met (rule5 fileX sps93 k l)
-    → Met (rule6 sps93 k (reach sps93 l)) → relationWrites (relation sps93 l) ≡ true
-unfolding relation
-relation-again k l p c g h =
-    let f = relation-5 k l (no-header fileX l c) .0 g in
-    let r = rows-go l fileX k false (λ e. clash e) 2 81 (relationRows sps93) relation-tiles (omega arith) relation-fittings p f in
-    relation-says (relation sps93 l) .1 (rw (relation-values sps93 l) r, counted-is k (reach sps93 l) .1 h)
 
 module _ (v : Relation) (e : relationWrites v ≡ true) where
   goes : writable (relationRows sps93) (relationValues v) ≡ true
@@ -104,3 +95,21 @@ module _ (v : Relation) (e : relationWrites v ≡ true) where
   pub relation-row-meets : (k : ℕ)
       → Met (rule5 fileX sps93 k (take 80 (relationLine v))) × Met (rule6 sps93 k (reach sps93 (take 80 (relationLine v))))
   relation-row-meets k = (rw row-is (met-from k []), counted-from k (take 80 (relationLine v)) relation-row)
+
+  -- a line in this spelling comes back byte for byte
+  pub relation-same : relationLine (relation sps93 (take 80 (relationLine v))) ≡ relationLine v
+  relation-same = rw relation-row
+
+-- a line of X that meets 5 and 6
+module _ (k : ℕ) (l : List ℕ) (p : PrintedTo 81 l) (c : col l letterColumn ≡ letter fileX) (g : Met (rule5 fileX sps93 k l))
+    (h : Met (rule6 sps93 k (reach sps93 l))) where
+  pub relation-again : relationWrites (relation sps93 l) ≡ true
+  unfolding relation
+  relation-again =
+      let f = relation-5 k l (no-header fileX l c) .0 g in
+      let r = rows-go l fileX k false (λ e. clash e) 2 81 (relationRows sps93) relation-tiles (omega arith) relation-fittings p f in
+      relation-says (relation sps93 l) .1 (rw (relation-values sps93 l) r, counted-is k (reach sps93 l) .1 h)
+
+  -- it comes back in this spelling, with the same values
+  pub relation-kept : relation sps93 (take 80 (relationLine (relation sps93 l))) ≡ relation sps93 l
+  relation-kept = relation-row (relation sps93 l) relation-again
