@@ -51,8 +51,7 @@ number-goes : {k : Kind} {w : ℕ} → Numeric k w → (bs : List ℕ) → lengt
 unfolding fits readAs allowsNumber spelledAs upFrom fromTo ofNatural bySign
 number-goes oneDigit bs h e =
     let i = kind-is index bs .0 e in
-    let r = index-range _ (i .0) (i .1) in
-    (
+    let r = index-range _ (i .0) (i .1) in (
       pos (i .0),
       ap (λ (m : ℕ). number (pos m)) (index-value _ (i .0) (i .1)),
       simp says r,
@@ -60,16 +59,14 @@ number-goes oneDigit bs h e =
     )
 number-goes sixDigits bs h e =
     let n = valueAfter 0 bs in
-    let f = time-figures bs h e in
-    (
+    let f = time-figures bs h e in (
       pos n,
       ap (λ (m : ℕ). number (pos m)) (whole-size bs n (0, bs, refl, f)),
       clock-is bs n h f .0 e,
       (let l = padded-long 48 6 (decimalOf n) (let g = figures-few bs n f in omega arith) in omega arith),
     )
 number-goes (wholes {m = x} {n = y}) bs h e =
-    let i = kind-is (wholeNumber x y) bs .0 e in
-    (
+    let i = kind-is (wholeNumber x y) bs .0 e in (
       pos (i .0),
       ap (λ (m : ℕ). number (pos m)) (whole-size bs (i .0) (i .1)),
       simp says (i .2, i .3),
@@ -78,8 +75,7 @@ number-goes (wholes {m = x} {n = y}) bs h e =
 number-goes (integers {m = x} {n = y} {w = w}) bs h e =
     ⊎-elim
     (λ i. (pos (i .0), ap number (value-plus signed Whole signed-plus bs (i .0) (i .1)), simp says (i .2), let g = whole-few bs (i .0) (i .1) in omega arith))
-    (λ i.
-    (
+    (λ i. (
       negℤ (pos (i .0)),
       ap number (value-minus signed Minus signed-minus bs (i .0) (i .1)),
       minus-allowed x y (i .0) (i .2),
@@ -87,8 +83,7 @@ number-goes (integers {m = x} {n = y} {w = w}) bs h e =
     ))
     (kind-is (signedNumber x y) bs .0 e)
 number-goes (decimals {n = y} f) bs h e =
-    let i = kind-is (decimalNumber y) bs .0 e in
-    (
+    let i = kind-is (decimalNumber y) bs .0 e in (
       pos (i .0),
       ap number (value-plus (tenths whole) Decimal decimal-whole bs (i .0) (i .1)),
       simp says (i .2, i .3),
@@ -96,15 +91,13 @@ number-goes (decimals {n = y} f) bs h e =
     )
 number-goes (eitherSign {m = x} {n = y} {w = w} f g) bs h e =
     ⊎-elim
-    (λ i.
-    (
+    (λ i. (
       pos (i .0),
       ap number (value-plus (tenths signed) Decimal decimal-plus bs (i .0) (i .1)),
       simp says (i .2),
       let l = point-grow (i .0) y (i .2) in omega arith,
     ))
-    (λ i.
-    (
+    (λ i. (
       negℤ (pos (i .0)),
       ap number (value-minus (tenths signed) MinusDecimal decimal-minus bs (i .0) (i .1)),
       minus-allowed x y (i .0) (i .2),
@@ -115,22 +108,20 @@ number-goes (coordinates {w = w}) bs h e =
     let i = kind-is coordinate bs .0 e in
     let n = i .0 in
     ⊎-elim
-    (λ d.
-    (
+    (λ d. (
       pos n,
       ap number (value-plus (tenths signed) Decimal decimal-plus bs n d),
       refl,
       coordinate-short (withPoint n) (decimalOf n) w
-      (⊎-elim (λ a. inr (let g = whole-few bs n a in omega arith)) (λ a. inl (let g = point-few bs n a in omega arith)) d),
+          (⊎-elim (λ a. inr (let g = whole-few bs n a in omega arith)) (λ a. inl (let g = point-few bs n a in omega arith)) d),
     ))
-    (λ d.
-    (
+    (λ d. (
       negℤ (pos n),
       ap number (value-minus (tenths signed) MinusDecimal decimal-minus bs n d),
       refl,
       coordinate-short (bySign withPoint (negℤ (pos n))) (bySign decimalOf (negℤ (pos n))) w
-      (⊎-elim (λ a. inr (minus-short decimalOf w n (let g = minus-few bs n a in omega arith)))
-      (λ a. inl (minus-short withPoint w n (let g = minus-point-few bs n a in omega arith))) d),
+          (⊎-elim (λ a. inr (minus-short decimalOf w n (let g = minus-few bs n a in omega arith)))
+          (λ a. inl (minus-short withPoint w n (let g = minus-point-few bs n a in omega arith))) d),
     ))
     (i .1)
 number-goes (depths f) bs h e =

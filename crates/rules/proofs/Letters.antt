@@ -49,8 +49,7 @@ module _ (i k : ℕ) (l : List ℕ) (n : not (isHeader l) ≡ true) where
   pub point-5 : (i ≡ fileX → ⊥) → Met (rule5 i sps93 k l) ↔ Met (fieldsFit i k (isMarker sps93 l) l (pointRows sps93 i))
   unfolding rule5
   point-5 h =
-      let x : eqb i fileX ≡ true → ⊥ = λ t. h (eqb-true i fileX t) in
-      (
+      let x : eqb i fileX ≡ true → ⊥ = λ t. h (eqb-true i fileX t) in (
         λ g. g .1 .0 (and-is _ _ .1 (n, not-is _ .1 x)),
         λ f. ((λ t. absurd (header-off t)), ((λ t. f), λ t. absurd (x (and-is (not (isHeader l)) (eqb i fileX) .0 t .1)))),
       )

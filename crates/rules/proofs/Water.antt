@@ -47,8 +47,8 @@ water-metres bs m w h =
     let e = whole-is bs m .1 w in
     pick-is _ _ _ _ .1 (
       (λ t.
-      let b = between-is 0 999 (decimal whole bs) .0 t in
-      absurd (not-both bs m (b .0) w (pointed-whole bs (b .0) .0 (b .1)))),
+          let b = between-is 0 999 (decimal whole bs) .0 t in
+          absurd (not-both bs m (b .0) w (pointed-whole bs (b .0) .0 (b .1)))),
       λ t. pick-is _ _ _ _ .1 ((λ u. rw e), λ u. absurd (u (between-is 0 999 (whole bs) .1 (m, e, omega arith, h)))),
     )
 
@@ -70,8 +70,8 @@ water-back w n e =
     let h : n ≤ 999 → ⊥ = λ h. t (le-leb n 999 h) in
     let b : (n ≤ 9990) × (n % 10 ≡ 0) = ⊎-elim (λ u. absurd (h u)) (λ u. u) (depth-is n .0 e) in
     rw (water-large n (omega arith)) (
-      water-metres _ (n / 10) (padded-whole w (n / 10)) (omega arith)
-      ∙ ap plus (let z : 10 * (n / 10) + 0 ≡ n = omega arith in z)
+    water-metres _ (n / 10) (padded-whole w (n / 10)) (omega arith)
+    ∙ ap plus (let z : 10 * (n / 10) + 0 ≡ n = omega arith in z)
     ))
 
 -- four columns hold it

@@ -73,4 +73,3 @@ module _ (b : ℕ) (ws : List Row) (vs : List Value) (t : Tiles 2 ws 81) (f : Fi
         return = getD-at l 13 (10 ∷ []) 0 80 n;
         feed = ap (λ (m : ℕ). getD (l ++ (13 ∷ 10 ∷ [])) (m + 1) 0) (sym n) ∙ getD-append-add l (13 ∷ 10 ∷ []) 1 0;
       }
-
