@@ -1,11 +1,12 @@
 -- "A C host gets one 64-bit number."
 --   packed w       = a refusal as number * 2^40 + file * 2^32 + line * 256 + column
 --   hostNumber a   = an answer as that number; 0 where there is none, and of a file that is well formed
+--   hostVerdict v  = a verdict as that number; 0 where it is fine
 --   numbersOf b    = the 16-bit numbers of a byte slice, low byte first; a last odd byte is no place
 use Prim.Native.Nat.{ℕ, _+_, _*_, _^_}
 use mathlib.Core.List.{List, [], _∷_}
 use Rattle.rules.specs.Places.{pick}
-use Rattle.rules.specs.Plan.{Refusal, №}
+use Rattle.rules.specs.Plan.{Refusal, №, Verdict, fine, refused}
 use Rattle.rules.specs.Check.{Answer, accepted, refusal, trace, channel, highest, headerLine, noTrace, formed}
 
 unfoldable pub packed : Refusal → ℕ
@@ -20,6 +21,10 @@ hostNumber (highest c) = c
 hostNumber (headerLine l) = l
 hostNumber noTrace = 0
 hostNumber formed = 0
+
+unfoldable pub hostVerdict : Verdict → ℕ
+hostVerdict fine = 0
+hostVerdict (refused w) = packed w
 
 unfoldable pub numbersOf : List ℕ → List ℕ
 numbersOf [] = []

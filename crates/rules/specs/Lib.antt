@@ -19,6 +19,7 @@ pub mod Figures
 pub mod Values
 pub mod Spelled
 pub mod Writer
+pub mod Carried
 pub mod Headers
 pub mod Codes
 pub mod Reaches
@@ -26,6 +27,7 @@ pub mod Order
 pub mod Check
 pub mod Questions
 pub mod OneFile
+pub mod OneLine
 pub mod Lookup
 pub mod Tables
 pub mod Spread

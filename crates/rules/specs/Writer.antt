@@ -3,6 +3,7 @@
 --   joined ws vs       = the columns of a table's fields, one after the other
 --   writable ws vs     = each value goes into its field
 --   lineOf b ws vs     = the 82 bytes of a line: its letter, the fields, CR and LF
+--   pointGoes, relationGoes = 22 of values in the order of the table
 --   pointWrites b p    = 22: a letter R or S, no marker, a state that agrees with the code, and values that their fields take
 --   relationWrites v   = 22: values that their fields take, and 6
 --   writes ok n        = 22, then 23 of a slice of n bytes
@@ -55,10 +56,14 @@ sameState marker s = false
 sameState live marker = false
 sameState killed marker = false
 
-unfoldable pub pointWrites : ℕ → Point → Bool
-pointWrites b p =
+-- values in the order of the table, with the code and the state of the point
+abbrev pub pointGoes : ℕ → List ℕ → State → List Value → Bool
+pointGoes b c s vs =
     let i = kindOf b in
-    (leb fileR i && leb i fileS) && (sameState (stateOf (p .code)) (p .state) && writable (pointRows sps93 i) (pointValues p))
+    (leb fileR i && leb i fileS) && (sameState (stateOf c) s && writable (pointRows sps93 i) vs)
+
+unfoldable pub pointWrites : ℕ → Point → Bool
+pointWrites b p = pointGoes b (p .code) (p .state) (pointValues p)
 
 -- 6 of values that are not read from a line
 unfoldable pub counted : Reach → Bool
@@ -68,8 +73,11 @@ counted q = let v = run (rule6 sps93 0 q) in isFine v
     isFine fine = true
     isFine (refused w) = false
 
+abbrev pub relationGoes : List Value → Reach → Bool
+relationGoes vs q = writable (relationRows sps93) vs && counted q
+
 unfoldable pub relationWrites : Relation → Bool
-relationWrites v = writable (relationRows sps93) (relationValues v) && counted (v .reach)
+relationWrites v = relationGoes (relationValues v) (v .reach)
 
 unfoldable pub writes : Bool → ℕ → Plan
 writes ok n = need ok (№ 22 0 0 0) before need (leb 82 n) (№ 23 0 0 0)
