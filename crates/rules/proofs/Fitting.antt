@@ -4,9 +4,9 @@
 --   Printed bs  = each byte is printed
 --   no-text, not-absent, name-says = what a number's field and a name's take
 use Prim.Native.Nat.{ℕ, _≤_, _<_}
-use mathlib.Core.Path.{_≡_}
+use mathlib.Core.Path.{_≡_, refl, sym, _∙_}
 use mathlib.Core.Logic.{_↔_, Iff·rfl}
-use mathlib.Core.Bool.{true}
+use mathlib.Core.Bool.{true, false}
 use mathlib.Core.List.{List}
 use lib.ListN.{length, getD}
 use Rattle.rules.specs.Kinds.{Kind, startsNonBlank, coordinate, index, waterDepth, time, wholeNumber, signedNumber, signedDecimal}
@@ -33,27 +33,22 @@ pub data Fitting : Kind → ℕ → Type 0 where
   ifAny : {k : Kind} {w : ℕ} → Numeric k w → Fitting (mayBeBlank k) w
 
 -- a number's field takes numbers alone
+numbers-only : {k : Kind} {w : ℕ} → Numeric k w → ((bs : List ℕ) → allowsText k bs ≡ false) × (allowsNothing k ≡ false)
+unfolding allowsText allowsNothing
+numbers-only oneDigit = ((λ bs. refl), refl)
+numbers-only sixDigits = ((λ bs. refl), refl)
+numbers-only coordinates = ((λ bs. refl), refl)
+numbers-only (depths f) = ((λ bs. refl), refl)
+numbers-only wholes = ((λ bs. refl), refl)
+numbers-only integers = ((λ bs. refl), refl)
+numbers-only (decimals f) = ((λ bs. refl), refl)
+numbers-only (eitherSign f g) = ((λ bs. refl), refl)
+
 pub no-text : {k : Kind} {w : ℕ} → Numeric k w → (bs : List ℕ) → allowsText k bs ≡ true → ⊥
-unfolding allowsText
-no-text oneDigit bs e = clash e
-no-text sixDigits bs e = clash e
-no-text coordinates bs e = clash e
-no-text (depths f) bs e = clash e
-no-text wholes bs e = clash e
-no-text integers bs e = clash e
-no-text (decimals f) bs e = clash e
-no-text (eitherSign f g) bs e = clash e
+no-text f bs e = clash (sym (numbers-only f .0 bs) ∙ e)
 
 pub not-absent : {k : Kind} {w : ℕ} → Numeric k w → allowsNothing k ≡ true → ⊥
-unfolding allowsNothing
-not-absent oneDigit e = clash e
-not-absent sixDigits e = clash e
-not-absent coordinates e = clash e
-not-absent (depths f) e = clash e
-not-absent wholes e = clash e
-not-absent integers e = clash e
-not-absent (decimals f) e = clash e
-not-absent (eitherSign f g) e = clash e
+not-absent f e = clash (sym (numbers-only f .1) ∙ e)
 
 -- every byte of a name is printed, and its first column is not blank
 abbrev pub Printed : List ℕ → Type 0

@@ -2,6 +2,7 @@
 --   padded-long, padded-full       = as many columns as are asked for; nothing before what fills them
 --   asNumber z                     = a signed number as a field holds it
 --   whole-back .. bare-back        = what is written is read, with and without a point
+--   every-spelling                 = what holds of figures, a point, a minus and zeros holds of every number that is written
 --   inked                          = no number is blanks alone
 use Prim.Native.Nat.{ℕ, suc, _+_, _-_, _/_, _%_, _≤_}
 use native.Mathlib.Omega.{arith}

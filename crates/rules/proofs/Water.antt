@@ -69,10 +69,8 @@ water-back w n e =
     (λ t.
     let h : n ≤ 999 → ⊥ = λ h. t (le-leb n 999 h) in
     let b : (n ≤ 9990) × (n % 10 ≡ 0) = ⊎-elim (λ u. absurd (h u)) (λ u. u) (depth-is n .0 e) in
-    rw (water-large n (omega arith)) (
-    water-metres _ (n / 10) (padded-whole w (n / 10)) (omega arith)
-    ∙ ap plus (let z : 10 * (n / 10) + 0 ≡ n = omega arith in z)
-    ))
+    rw (water-large n (omega arith))
+    (water-metres _ (n / 10) (padded-whole w (n / 10)) (omega arith) ∙ ap plus (let z : 10 * (n / 10) + 0 ≡ n = omega arith in z)))
 
 -- four columns hold it
 pub water-short : (n : ℕ) → n ≤ 9990 → length (waterFigures n) ≤ 4

@@ -1,23 +1,31 @@
 -- A line is its letter, the fields of a table that has the columns 2 to 80, CR and LF.
 --   Formed l     = 82 bytes: 80 columns that are printed, CR and LF
+--   formed-takes = 3 of it on disc
+--   row-printed  = what 3 leaves in the columns of a line, on any medium
 --   begun b ws vs zs = the letter, the fields, and what follows them
 --   line-reads, line-fits = the values are read from it, and each field obeys its rule
 --   line-take    = its first 80 columns are the letter and the fields
 --   line-formed  = it is a line
-use Prim.Native.Nat.{ℕ, _+_, _-_}
+use Prim.Native.Nat.{ℕ, _+_, _-_, _≤_, _<_}
 use native.Mathlib.Omega.{arith}
 use mathlib.Core.Path.{_≡_, refl, sym, ap, _∙_}
 use mathlib.Core.Bool.{Bool, true}
 use mathlib.Core.List.{List, [], _∷_, _++_, append-nil}
+use lib.Dec.{eqb, leb}
 use lib.ListN.{length, getD, take, length-append, List·getD-append}
 use lib.Seq.{take-at, getD-at, getD-append-add}
+use borrow.Author.Tests.{leb-true, le-leb, eqb-true, eq-eqb}
 use Rattle.rules.specs.Text.{col}
-use Rattle.rules.specs.Disc.{printable}
+use Rattle.rules.specs.Disc.{printable, byteFits}
+use Rattle.rules.specs.Layout.{Layout}
+use Rattle.rules.specs.Medium.{Medium, sheet}
 use Rattle.rules.specs.Rows.{Row}
-use Rattle.rules.specs.Form.{fieldsFit}
+use Rattle.rules.specs.Form.{stray, fieldsFit}
 use Rattle.rules.specs.Values.{Value, readRows}
 use Rattle.rules.specs.Spelled.{spell}
 use Rattle.rules.specs.Writer.{widthOf, joined, writable, lineOf}
+use Rattle.rules.proofs.Tests.{says, pick-is}
+use Rattle.rules.proofs.Medium.{Lawful, prints-at as columns-print}
 use Rattle.rules.proofs.Breach.{Met}
 use Rattle.rules.proofs.Tiles.{Tiles, Fittings, Spells, PrintedTo, goes-both, joined-long, joined-at, rows-read, rows-fit}
 use Rattle.rules.proofs.Printed.{Prints, prints-at, prints-both, spelled-prints}
@@ -28,6 +36,28 @@ pub record Formed (l : List ℕ) : Type 0 where
   pub printed : PrintedTo 81 l
   pub return : col l 81 ≡ 13
   pub feed : col l 82 ≡ 10
+
+-- 3 of its bytes on disc
+pub formed-takes : (l : List ℕ) → Formed l → (c : ℕ) → 1 ≤ c → c ≤ 82 → byteFits c (col l c) ≡ true
+unfolding byteFits
+formed-takes l w c o h =
+    pick-is (leb c 80) _ _ true .1 (
+      (λ t. w .printed c o (let z = leb-true c 80 t in omega arith)),
+      λ t.
+          pick-is (eqb c 81) _ _ true .1 (
+            (λ u. eq-eqb _ 13 (ap (col l) (eqb-true c 81 u) ∙ w .return)),
+            λ u.
+                let a : c ≤ 80 → ⊥ = λ a. t (le-leb c 80 a) in
+                let b : c ≡ 81 → ⊥ = λ b. u (eq-eqb c 81 b) in
+                eq-eqb _ 10 (ap (col l) (let z : c ≡ 82 = omega arith in z) ∙ w .feed),
+          ),
+    )
+
+-- a line that meets 3, on any medium
+pub row-printed : (M : Medium) → Lawful M → (L : Layout) (f : List ℕ) (k : ℕ) → k < sheet M L f .count → stray (sheet M L f) k ≡ 0
+    → PrintedTo 81 (sheet M L f .row k)
+unfolding printable col
+row-printed M w L f k h e c o l = let p = columns-print M w L f k h e (c - 1) (omega arith) in simp says (p .0, p .1)
 
 joined-prints : (ws : List Row) (vs : List Value) → Fittings ws → writable ws vs ≡ true → Prints (joined ws vs)
 unfolding joined writable
