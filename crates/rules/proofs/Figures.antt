@@ -2,6 +2,9 @@
 --   decimal-figures = they are digits, at least one, of the number's value
 --   figures-few     = no digits of that value are fewer
 --   digits-grow     = a larger number has no fewer
+--   read-back       = read as the rules read digits they are the number; no-zero-before = no zero stands before them
+--   few-digits, twenty = how many there are at most
+--   room-small, room-more = the room that they take in a buffer
 use mathlib.Core.Path.{_≡_, refl, ap, sym, _∙_}
 use mathlib.Core.Bool.{Bool, true, false}
 use mathlib.Core.List.{List, [], _∷_, _++_}
@@ -9,10 +12,10 @@ use Prim.Native.Nat.{ℕ, zero, suc, _+_, _-_, _*_, _/_, _%_, _^_, _≤_, _<_}
 use native.Mathlib.Nat.{pow-suc}
 use native.Mathlib.Omega.{arith}
 use lib.Dec.{ltb}
-use lib.ListN.{length, length-append}
+use lib.ListN.{length, length-append, getD, List·getD-append}
 use borrow.Author.Tests.{lt-ltb, le-ltb, ltb-true, ltb-false}
 use Rattle.rules.specs.Places.{pick}
-use Rattle.rules.specs.Numbers.{size}
+use Rattle.rules.specs.Numbers.{plus, digits as read, size}
 use Rattle.rules.specs.Figures.{figure, figures, decimalOf}
 use Rattle.rules.specs.MeetsFields.{Figures}
 use Rattle.rules.proofs.Numbers.{digits-are}
@@ -62,8 +65,26 @@ decimal-figures n =
     rw (decimal-more m h) (f .0, f .1, f .2 ∙ (let z : 10 * (m / 10) + (48 + m % 10 - 48) ≡ m = omega arith in z)))
     n n (omega arith)
 
+pub digits-any : (n : ℕ) → 1 ≤ length (decimalOf n)
+digits-any n =
+    digits-all (λ (m : ℕ). 1 ≤ length (decimalOf m))
+    (λ m h. rw (decimal-small m h) (omega arith))
+    (λ m h e. rw (decimal-more m h, length-append) (omega arith))
+    n n (omega arith)
+
+-- the law of the definition: its digits are those of the number
+pub read-back : (n : ℕ) → read (decimalOf n) ≡ plus n
+read-back n = digits-are (decimalOf n) n .1 (decimal-figures n)
+
+pub no-zero-before : (n : ℕ) → 1 ≤ n → figure 1 ≤ getD (decimalOf n) 0 0
+no-zero-before n =
+    digits-all (λ (m : ℕ). 1 ≤ m → figure 1 ≤ getD (decimalOf m) 0 0)
+    (λ m h g. rw (decimal-small m h) (omega arith))
+    (λ m h e g. rw (decimal-more m h, List·getD-append (decimalOf (m / 10)) (figure (m % 10) ∷ []) 0 0 (digits-any (m / 10))) (e (omega arith)))
+    n n (omega arith)
+
 -- a number below a power of ten has no more digits than that
-few-digits : (k n : ℕ) → n < 10 ^ suc k → length (decimalOf n) ≤ suc k
+pub few-digits : (k n : ℕ) → n < 10 ^ suc k → length (decimalOf n) ≤ suc k
 few-digits zero n h = rw (decimal-small n h) (omega arith)
 few-digits (suc k) n h = by (ltb n 10) refl (few-digits k (n / 10))
   where
@@ -89,3 +110,13 @@ digits-grow m n =
     by n f m g false e =
         let h = ltb-false m 10 e in
         rw (decimal-more m h, length-append) (let z = f (m / 10) (omega arith) in omega arith)
+
+pub twenty : (n : ℕ) → n < 2 ^ 64 → length (decimalOf n) ≤ 20
+twenty n h = few-digits 19 n (omega arith)
+
+-- the room that they take: one place for the last, the others before it
+pub room-small : (v n m : ℕ) → v < 10 → n + length (decimalOf v) ≤ m → n < m
+room-small v n m h g = omega (arith, ap length (decimal-small v h))
+
+pub room-more : (v n m : ℕ) → 10 ≤ v → n + length (decimalOf v) ≤ m → n + length (decimalOf (v / 10)) + 1 ≤ m
+room-more v n m h g = omega (arith, simp length-append at (ap length (decimal-more v h)))
