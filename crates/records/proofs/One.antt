@@ -3,6 +3,7 @@
 use mathlib.Core.Path.{_≡_, refl, sym, _∙_}
 use Rattle.rules.specs.Relations.{Reach as PaperReach}
 use Rattle.outcome.specs.One.{One, alike}
+use Rattle.lines.specs.Paper.{paper}
 use Rattle.fields.specs.Texts.{Wide}
 use Rattle.records.specs.Coded.{codedReach}
 use Rattle.records.specs.declared.relation.Reach.{Reach}
@@ -38,6 +39,8 @@ use Rattle.records.proofs.fits.is_marker as is-marker
 use Rattle.records.proofs.fits.is_marker.Reads as is-marker-reads
 use Rattle.records.proofs.fits.rule5 as rule5
 use Rattle.records.proofs.fits.rule5.Reads as rule5-reads
+use Rattle.records.proofs.fits.counts as counts
+use Rattle.records.proofs.fits.counts.Reads as counts-reads
 use Rattle.records.proofs.fits.rule6 as rule6
 use Rattle.records.proofs.fits.rule6.Reads as rule6-reads
 use Rattle.records.proofs.state.state_in as state-in
@@ -68,6 +71,9 @@ is-marker-one κs a v v′ w w′ = alike
 
 pub rule5-one : One rule5.ended rule5-reads.Post
 rule5-one κs a v v′ w w′ p p′ = (verdict-one v v′ (p ∙ sym p′), refl)
+
+pub counts-one : One counts.ended counts-reads.Post
+counts-one κs a v v′ w w′ p p′ = (verdict-one v v′ (one-value (a .0) _ (paper v) (paper v′) p p′), refl)
 
 pub rule6-one : One rule6.ended rule6-reads.Post
 rule6-one κs a v v′ w w′ p p′ = (verdict-one v v′ (p ∙ sym p′), refl)

@@ -8,12 +8,13 @@ ghost use Rattle.rules.specs.Text.{cols, blank as isBlank};
 ghost use Rattle.rules.specs.Layout.{sps93};
 ghost use Rattle.rules.specs.Lines.{isHeader, isMarker};
 ghost use Rattle.rules.specs.Form.{fieldsFit, rule5 as rule5Of, rule6 as rule6Of};
-ghost use Rattle.rules.specs.Relations.{reach as reachOf};
+ghost use Rattle.rules.specs.Relations.{Reach as PaperReach, reach as reachOf};
 ghost use Rattle.lines.specs.Paper.{paper};
 ghost use Rattle.fields.specs.Paper.{sized};
-ghost use Rattle.records.specs.Coded.{rowOf, rowsOf, rowFits};
+ghost use Rattle.records.specs.Coded.{rowOf, rowsOf, rowFits, codedReach};
 use crate::cover;
 use crate::relation;
+use crate::relation::Reach;
 use crate::straight;
 use crate::table;
 use crate::table::Row;
@@ -112,12 +113,11 @@ pub fn rule5(l: &[u8; 80], i: u8, k: usize) -> Verdict
     fields_fit(l, Table::Point(i), marker, i, k)
 }
 
-// 6 of line k of X, from 0.
-pub fn rule6(l: &[u8; 80], k: usize) -> Verdict
+// 6 of the reach of line k of X, from 0.
+pub fn counts(q: Reach, k: usize) -> Verdict
     requires { ⌜ k ≤ mostLines ⌝ }
-    ensures verdict { λ v. ⌜ paper v ≡ run (rule6Of sps93 k (reachOf sps93 (now (l .entry)))) ⌝ }
+    ensures verdict { λ v. ⌜ ((p : PaperReach) → q ≡ codedReach p → paper v ≡ run (rule6Of sps93 k p)) ⌝ }
 {
-    let q = relation::reach_of(l);
     if q.upto < q.from {
         return lines::at_line(6, 3, k, 39);
     }
@@ -133,4 +133,12 @@ pub fn rule6(l: &[u8; 80], k: usize) -> Verdict
         return lines::at_line(6, 3, k, 72);
     }
     Verdict::Fine
+}
+
+// 6 of line k of X, from 0.
+pub fn rule6(l: &[u8; 80], k: usize) -> Verdict
+    requires { ⌜ k ≤ mostLines ⌝ }
+    ensures verdict { λ v. ⌜ paper v ≡ run (rule6Of sps93 k (reachOf sps93 (now (l .entry)))) ⌝ }
+{
+    counts(relation::reach_of(l), k)
 }

@@ -6,4 +6,4 @@ pub mod point;
 pub mod relation;
 pub mod state;
 mod straight;
-mod table;
+pub mod table;

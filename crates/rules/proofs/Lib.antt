@@ -6,9 +6,9 @@ pub mod Steps
 pub mod Columns
 pub mod Numbers
 pub mod Sizes
+pub mod Figures
 pub mod Spellings
 pub mod Fields
-pub mod Figures
 pub mod Padded
 pub mod Clock
 pub mod Fitting

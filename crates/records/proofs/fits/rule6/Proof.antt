@@ -1,9 +1,4 @@
 -- `records::fits::rule6` meets its contract. Assumes nothing.
-use Rattle.records.proofs.Six.{six-channels, six-count, six-fine, six-multiple, six-none}
-use Rattle.rules.specs.Layout.{sps93}
-use Rattle.rules.specs.Relations.{reach}
-use mathlib.Core.Path.{_∙_}
-use Rattle.rules.specs.Sheet.{mostLines}
 use borrow.Author.Needs.{needs}
 use Rattle.records.proofs.fits.rule6.Statement.{statement}
 use Rattle.records.proofs.fits.rule6.Tie as tie
@@ -11,97 +6,11 @@ use Rattle.records.proofs.fits.rule6.Tie as tie
 reach-of-requires : tie.Need-reach-of-requires
 reach-of-requires c κs = search needs
 
-at-line-requires : tie.Need-at-line-requires
-unfolding mostLines
-at-line-requires c κs = search needs
+counts-requires : tie.Need-counts-requires
+counts-requires c κs = search needs
 
 returns : tie.Need-returns
-returns c =
-    let d = c .before in
-    let r = d .before .before in
-    let p = reach sps93 (r .before .args .l .now) in
-    let e = r .reach-of .ensures in
-    c .at-line .ensures ∙ six-channels _ p _ e (d .if1 .taken)
-
-traces-requires : tie.Need-traces-requires
-traces-requires c κs = search needs
-
-cast-i : tie.Need-cast-i
-cast-i c = search needs
-
-at-line-requires-2 : tie.Need-at-line-requires-2
-unfolding mostLines
-at-line-requires-2 c κs = search needs
-
-returns-2 : tie.Need-returns-2
-returns-2 c =
-    let d = c .before in
-    let r = d .before .before .before .before .before in
-    let p = reach sps93 (r .before .args .l .now) in
-    let e = r .reach-of .ensures in
-    c .at-line2 .ensures ∙ six-none _ p _ e (d .before .before .before .if1 .left) _ (d .before .before .traces .ensures p e) (d .if2 .taken)
-
-rem-if3 : tie.Need-rem-if3
-rem-if3 c = search needs
-
-at-line-requires-3 : tie.Need-at-line-requires-3
-unfolding mostLines
-at-line-requires-3 c κs = search needs
-
-returns-3 : tie.Need-returns-3
-returns-3 c =
-    let d = c .before in
-    let r = d .before .before .before .before .before .before in
-    let p = reach sps93 (r .before .args .l .now) in
-    let e = r .reach-of .ensures in
-    c .at-line3 .ensures ∙ six-multiple _ p _ e (d .before .before .before .before .if1 .left) _
-    (d .before .before .before .traces .ensures p e) (d .if3 .taken)
-
-div-if4 : tie.Need-div-if4
-div-if4 c = search needs
-
-receivers-requires : tie.Need-receivers-requires
-receivers-requires c κs = search needs
-
-at-line-requires-4 : tie.Need-at-line-requires-4
-unfolding mostLines
-at-line-requires-4 c κs = search needs
-
-returns-4 : tie.Need-returns-4
-returns-4 c =
-    let d = c .before in
-    let r = d .before .before .before .before .before .before .before .before in
-    let p = reach sps93 (r .before .args .l .now) in
-    let e = r .reach-of .ensures in
-    c .at-line4 .ensures ∙ six-count _ p _ e (d .before .before .before .before .before .before .if1 .left) _
-    (d .before .before .before .before .before .traces .ensures p e)
-    (d .before .before .if3 .left) _ (d .before .receivers .ensures p e) (d .if4 .taken)
-
-returns-5 : tie.Need-returns-5
-returns-5 c =
-    let b = c .before .before .before .before .before in
-    let r = b .before .before .before in
-    let p = reach sps93 (r .before .args .l .now) in
-    let e = r .reach-of .ensures in
-    six-fine _ p _ e (b .before .if1 .left) _ (b .traces .ensures p e) (c .before .before .if3 .left) _
-    (c .before .receivers .ensures p e) (c .if4 .left)
+returns c = c .counts .ensures _ (c .before .reach-of .ensures)
 
 pub rule6-spec : {M : Type 1} → statement M
-rule6-spec =
-    tie.close
-    (tie.spec
-    reach-of-requires
-    at-line-requires
-    returns
-    traces-requires
-    cast-i
-    at-line-requires-2
-    returns-2
-    rem-if3
-    at-line-requires-3
-    returns-3
-    div-if4
-    receivers-requires
-    at-line-requires-4
-    returns-4
-    returns-5)
+rule6-spec = tie.close (tie.spec reach-of-requires counts-requires returns)
