@@ -13,7 +13,7 @@ pub fn size(n: i64) -> u64
     ensures value { λ m. ⌜ m ≡ natAbs n ⌝ }
 {
     if n < 0 {
-        return (-(n + 1)) as u64 + 1;
+        return (-1 - n) as u64 + 1;
     }
     n as u64
 }
