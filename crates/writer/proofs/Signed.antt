@@ -37,6 +37,9 @@ module _ (z : ℤ) (f : SFits w64 z) where
       go (pos n) g h = let b = g .sfits in (tt, record { fits = omega arith })
       go (negsuc n) g h = clash (sym h)
 
+  pub signs-back : (t : Bool) (n : ℕ) → t ≡ minusOf (toZ w64 (ofZ w64 z)) → n ≡ natAbs (toZ w64 (ofZ w64 z)) → Signs z t n
+  signs-back t n p q = record { minus = sym (p ∙ ap minusOf back); size = sym (q ∙ size-back) }
+
 -- of a number below 0: -1 less it
 less : (n : ℕ) → negsuc 0 -ℤ negsuc n ≡ pos n
 less n = rw (le-ltb (suc n) 1 (omega arith)) (ap pos (let z : suc n - 1 ≡ n = omega arith in z))

@@ -1,0 +1,23 @@
+use Prim.Native.Nat.{ℕ, _+_, _-_, _*_, _≤_, _<_}
+use mathlib.Core.Path.{_≡_, refl, ap, sym, _∙_}
+use native.Mathlib.Omega.{arith}
+use lib.ListN.{length, take, drop, getD}
+use borrow.Author.Needs.{needs}
+use Rattle.writer.proofs.Spelling.{adds-nothing}
+use Rattle.writer.proofs.spell.sign.Statement.{statement}
+use Rattle.writer.proofs.spell.sign.Tie as tie
+use Rattle.writer.proofs.spell.sign.Reads as reads
+use Rattle.writer.proofs.spell.sign.Lts as lts
+use Rattle.texts.proofs.byte.Reads as byte-reads
+
+byte-requires : tie.Need-byte-requires
+byte-requires c κs = search needs
+
+returns : tie.Need-returns
+returns c = (rw (c .before .before .if1 .taken) (c .byte .ensures), omega (arith, c .byte .ensures .ends))
+
+returns-2 : tie.Need-returns-2
+returns-2 c = (rw (c .if1 .left) (adds-nothing (c .before .args .out .now) (c .before .args .at)), omega arith)
+
+pub sign-spec : {M : Type 1} → statement M
+sign-spec = tie.close (tie.spec byte-requires returns returns-2)
