@@ -37,3 +37,35 @@ fn field(w: Row, v: Value, line: &mut [u8; 82]) -> bool
     texts::add(&ink[..n], line, at);
     true
 }
+
+// Puts each value into its field, after the letter; false at the first that its columns do not take.
+fn fields(t: Table, vs: [Value; 14], line: &mut [u8; 82]) -> bool
+    ensures goes { λ ok. ⌜ ok ≡ writable (rowsOf t) (valuesOf (rowsOf t) vs) ⌝ }
+    ensures put { λ ok. ⌜ (ok ≡ true → Adds (now (line .entry)) 1 (joined (rowsOf t) (valuesOf (rowsOf t) vs)) (now (line .exit)) (columnsTo (rowsOf t))) ⌝ }
+{
+    let n = table::row_count(t);
+    let mut j = 0;
+    while j < n {
+        let w = table::row_at(t, j);
+        let v = vs[j];
+        if !field(w, v, line) {
+            return false;
+        }
+        j += 1;
+    }
+    true
+}
+
+// The 82 bytes of a line, of a table whose fields end in column 80.
+pub fn line_of(letter: u8, t: Table, vs: [Value; 14], line: &mut [u8; 82]) -> bool
+    requires { ⌜ columnsTo (rowsOf t) ≡ 80 ⌝ }
+    ensures goes { λ ok. ⌜ ok ≡ writable (rowsOf t) (valuesOf (rowsOf t) vs) ⌝ }
+    ensures line { λ ok. ⌜ (ok ≡ true → now (line .exit) ≡ lineOf letter (rowsOf t) (valuesOf (rowsOf t) vs)) ⌝ }
+{
+    texts::byte(letter, line, 0);
+    if !fields(t, vs, line) {
+        return false;
+    }
+    texts::add(b"\r\n", line, 80);
+    true
+}

@@ -1,0 +1,28 @@
+use Prim.Native.Nat.{ℕ, _+_, _-_, _*_, _≤_, _<_}
+use mathlib.Core.Path.{_≡_, refl, ap, sym, _∙_}
+use native.Mathlib.Omega.{arith}
+use lib.ListN.{length, take, drop, getD}
+use borrow.Author.Needs.{needs}
+use Rattle.writer.proofs.counted.Statement.{statement}
+use Rattle.writer.proofs.counted.Tie as tie
+use Rattle.writer.proofs.counted.Reads as reads
+use Rattle.writer.proofs.counted.Lts as lts
+use Rattle.records.proofs.fits.counts.Reads as counts-reads
+
+counts-requires : tie.Need-counts-requires
+counts-requires c κs = search needs
+
+enum-told : tie.Need-enum-told
+enum-told c = search needs
+
+enum-told-2 : tie.Need-enum-told-2
+enum-told-2 c = search needs
+
+returns : tie.Need-returns
+returns c = ?
+
+returns-2 : tie.Need-returns-2
+returns-2 c = ?
+
+pub counted-spec : {M : Type 1} → statement M
+counted-spec = tie.close (tie.spec counts-requires enum-told enum-told-2 returns returns-2)

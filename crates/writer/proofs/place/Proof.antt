@@ -1,0 +1,28 @@
+use Prim.Native.Nat.{ℕ, _+_, _-_, _*_, _≤_, _<_}
+use mathlib.Core.Path.{_≡_, refl, ap, sym, _∙_}
+use native.Mathlib.Omega.{arith}
+use lib.ListN.{length, take, drop, getD}
+use borrow.Author.Needs.{needs}
+use Rattle.writer.proofs.place.Statement.{statement}
+use Rattle.writer.proofs.place.Tie as tie
+use Rattle.writer.proofs.place.Reads as reads
+use Rattle.writer.proofs.place.Lts as lts
+use Rattle.texts.proofs.add.Reads as add-reads
+
+returns : tie.Need-returns
+returns c = ?
+
+returns-2 : tie.Need-returns-2
+returns-2 c = ?
+
+add-requires : tie.Need-add-requires
+add-requires c κs = search needs
+
+same-length : tie.Need-same-length
+same-length c = search needs
+
+returns-3 : tie.Need-returns-3
+returns-3 c = ?
+
+pub place-spec : {M : Type 1} → statement M
+place-spec = tie.close (tie.spec returns returns-2 add-requires same-length returns-3)

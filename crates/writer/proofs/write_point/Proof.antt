@@ -1,0 +1,26 @@
+use Prim.Native.Nat.{ℕ, _+_, _-_, _*_, _≤_, _<_}
+use mathlib.Core.Path.{_≡_, refl, ap, sym, _∙_}
+use native.Mathlib.Omega.{arith}
+use lib.ListN.{length, take, drop, getD}
+use borrow.Author.Needs.{needs}
+use Rattle.writer.proofs.write_point.Statement.{statement}
+use Rattle.writer.proofs.write_point.Tie as tie
+use Rattle.writer.proofs.write_point.Reads as reads
+use Rattle.writer.proofs.write_point.Lts as lts
+use Rattle.writer.proofs.place.Reads as place-reads
+use Rattle.writer.proofs.point_line.Reads as point-line-reads
+
+point-line-requires : tie.Need-point-line-requires
+point-line-requires c κs = search needs
+
+place-requires : tie.Need-place-requires
+place-requires c κs = search needs
+
+same-length : tie.Need-same-length
+same-length c = search needs
+
+returns : tie.Need-returns
+returns c = ?
+
+pub write-point-spec : {M : Type 1} → statement M
+write-point-spec = tie.close (tie.spec point-line-requires place-requires same-length returns)
