@@ -3,6 +3,7 @@ use mathlib.Core.Path.{_≡_, refl, ap, sym, _∙_}
 use native.Mathlib.Omega.{arith}
 use lib.ListN.{length, take, drop, getD}
 use borrow.Author.Needs.{needs}
+use Rattle.writer.proofs.Written.{written}
 use Rattle.writer.proofs.write_point.Statement.{statement}
 use Rattle.writer.proofs.write_point.Tie as tie
 use Rattle.writer.proofs.write_point.Reads as reads
@@ -20,7 +21,10 @@ same-length : tie.Need-same-length
 same-length c = search needs
 
 returns : tie.Need-returns
-returns c = ?
+returns c =
+    let p = c .before .before .place .ensures in
+    let l = c .before .before .before .before .before .point-line .ensures in
+    written _ _ (l .0) _ _ (p .0) _ _ (l .1) _ _ (p .1)
 
 pub write-point-spec : {M : Type 1} → statement M
 write-point-spec = tie.close (tie.spec point-line-requires place-requires same-length returns)

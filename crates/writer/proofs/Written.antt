@@ -1,0 +1,196 @@
+-- A line that is written, or refused.
+use Prim.Native.Nat.{ℕ, _+_, _*_, _/_, _%_, _≤_, _<_}
+use native.Mathlib.Nat.{zero-add}
+use native.Mathlib.Omega.{arith}
+use mathlib.Core.Path.{_≡_, refl, sym, ap, ap₂, _∙_}
+use mathlib.Core.Bool.{Bool, true, false, not, _&&_, and-false, and-true}
+use mathlib.Core.List.{List, [], _∷_, _++_}
+use lib.Dec.{leb, eqb}
+use lib.ListN.{length, take, drop, take-append-drop}
+use borrow.Author.Tests.{le-leb, lt-leb, eq-eqb, ne-eqb, eqb-true}
+use Rattle.rules.specs.Places.{pick}
+use Rattle.rules.specs.Plan.{Verdict, fine, refused, _orElse_, №, need, _before_, run}
+use Rattle.rules.specs.Text.{same, bytes}
+use Rattle.rules.specs.Layout.{sps93}
+use Rattle.rules.specs.Lines.{letter, kindOf}
+use Rattle.rules.specs.Points.{State as PaperState, live, killed, marker, stateOf}
+use Rattle.rules.specs.Cover.{traces, receivers}
+use Rattle.rules.specs.Rows.{Row, pointRows, relationRows}
+use Rattle.rules.specs.Form.{rule6}
+use Rattle.rules.specs.Values.{Value as PaperValue, pointValues, relationValues}
+use Rattle.rules.specs.Writer.{writable, lineOf, pointLine, relationLine, sameState, pointWrites, relationWrites, counted, writes, into}
+use Rattle.rules.proofs.Tests.{agree, and-is}
+use Rattle.rules.proofs.Steps.{need-met, need-broken, before-met, before-broken}
+use Rattle.records.specs.declared.point.Point.{Point}
+use Rattle.records.specs.declared.state.State.{State}
+use Rattle.records.specs.declared.state.State.the-variants.{Live, Killed, Marker}
+use Rattle.records.specs.declared.relation.Reach.{Reach}
+use Rattle.records.specs.declared.relation.Relation.{Relation}
+use Rattle.records.proofs.Reaches.{paperReach}
+use Rattle.texts.specs.Buffer.{Adds}
+use Rattle.writer.specs.Coded.{bytesOf, textOf, stateIn, pointOf, reachOf, relationOf}
+use Rattle.writer.proofs.Spelling.{text-short}
+
+-- a code of two letters as one number
+pair-is : (a b c n : ℕ) → b < 256 → n ≡ 256 * a + b → (eqb (c / 256) a && (eqb (c % 256) b && true)) ≡ eqb c n
+pair-is a b c n h e =
+    agree (eqb (c / 256) a && (eqb (c % 256) b && true)) (eqb c n)
+    (λ t.
+        let p = and-is (eqb (c / 256) a) (eqb (c % 256) b && true) .0 t in
+        let q = and-is (eqb (c % 256) b) true .0 (p .1) in
+        eq-eqb c n (omega (arith, eqb-true (c / 256) a (p .0), eqb-true (c % 256) b (q .0))))
+    (λ t.
+        let k = eqb-true c n t in
+        and-is (eqb (c / 256) a) (eqb (c % 256) b && true) .1
+        (eq-eqb (c / 256) a (omega arith), and-is (eqb (c % 256) b) true .1 (eq-eqb (c % 256) b (omega arith), refl)))
+
+letters : (c : ℕ) → textOf 2 0 c ≡ c / 256 ∷ c % 256 ∷ []
+unfolding bytesOf
+letters c = text-short 2 0 c (omega arith)
+
+abbrev told : ℕ → PaperState
+told c = pick (eqb c 20557) marker (pick (eqb c 19276) killed live)
+
+state-is : (c : ℕ) → stateOf (textOf 2 0 c) ≡ told c
+unfolding stateOf same bytes
+state-is c =
+    ap stateOf (letters c)
+    ∙ ap₂ (λ (m k : Bool). pick m marker (pick k killed live)) (pair-is 80 77 c 20557 (omega arith) (omega arith))
+    (pair-is 75 76 c 19276 (omega arith) (omega arith))
+
+module _ (c : ℕ) (s : State) where
+  agreed : sameState (told c) (stateIn s) ≡ sameState (stateOf (textOf 2 0 c)) (stateIn s)
+  agreed = ap (λ (p : PaperState). sameState p (stateIn s)) (sym (state-is c))
+
+  pub agrees-marker : c ≡ 20557 → false ≡ sameState (stateOf (textOf 2 0 c)) (stateIn s)
+  unfolding pick
+  agrees-marker e = (rw (eq-eqb c 20557 e)) ∙ agreed
+
+  module _ (n : c ≡ 20557 → ⊥) where
+    other : sameState (pick (eqb c 19276) killed live) (stateIn s) ≡ sameState (stateOf (textOf 2 0 c)) (stateIn s)
+    unfolding pick
+    other = (rw (ne-eqb c 20557 n)) ∙ agreed
+
+    pub agrees-live : s ≡ Live → not (eqb c 19276) ≡ sameState (stateOf (textOf 2 0 c)) (stateIn s)
+    unfolding pick
+    agrees-live e = go (eqb c 19276) ∙ ap (λ (u : State). sameState (pick (eqb c 19276) killed live) (stateIn u)) (sym e) ∙ other
+      where
+        go : (t : Bool) → not t ≡ sameState (pick t killed live) live
+        go true = refl
+        go false = refl
+
+    pub agrees-killed : s ≡ Killed → eqb c 19276 ≡ sameState (stateOf (textOf 2 0 c)) (stateIn s)
+    unfolding pick
+    agrees-killed e = go (eqb c 19276) ∙ ap (λ (u : State). sameState (pick (eqb c 19276) killed live) (stateIn u)) (sym e) ∙ other
+      where
+        go : (t : Bool) → t ≡ sameState (pick t killed live) killed
+        go true = refl
+        go false = refl
+
+    pub agrees-never : s ≡ Marker → false ≡ sameState (stateOf (textOf 2 0 c)) (stateIn s)
+    unfolding pick
+    agrees-never e = go (eqb c 19276) ∙ ap (λ (u : State). sameState (pick (eqb c 19276) killed live) (stateIn u)) (sym e) ∙ other
+      where
+        go : (t : Bool) → false ≡ sameState (pick t killed live) marker
+        go true = refl
+        go false = refl
+
+-- 6 of the values
+six-same : (q : Reach) → run (rule6 sps93 0 (paperReach q)) ≡ run (rule6 sps93 0 (reachOf q))
+unfolding rule6 traces receivers reachOf
+six-same q = refl
+
+pub counted-is : (q : Reach) → fine ≡ run (rule6 sps93 0 (paperReach q)) → true ≡ counted (reachOf q)
+unfolding counted
+counted-is q e = rw (← (e ∙ six-same q))
+
+pub counted-not : (q : Reach) (n f l c : ℕ) → refused (№ n f l c) ≡ run (rule6 sps93 0 (paperReach q)) → false ≡ counted (reachOf q)
+unfolding counted
+counted-not q n f l c e = rw (← (e ∙ six-same q))
+
+-- 22, then 23, then the line
+module _ (n : ℕ) where
+  pub writes-not : (ok : Bool) → ok ≡ false → refused (№ 22 0 0 0) ≡ run (writes ok n)
+  unfolding writes
+  writes-not ok e = before-broken _ _ _ (need-broken _ _ e)
+
+  pub writes-short : (ok : Bool) → ok ≡ true → n < 82 → refused (№ 23 0 0 0) ≡ run (writes ok n)
+  unfolding writes
+  writes-short ok e h = need-broken _ _ (lt-leb 82 n h) ∙ before-met _ _ (need-met _ _ e)
+
+  pub writes-fine : (ok : Bool) → ok ≡ true → 82 ≤ n → fine ≡ run (writes ok n)
+  unfolding writes
+  writes-fine ok e h = need-met _ _ (le-leb 82 n h) ∙ before-met _ _ (need-met _ _ e)
+
+pub into-fine : {a t b : List ℕ} {m : ℕ} → Adds a 0 t b m → b ≡ into fine t a
+unfolding into
+into-fine {a} {t} {b} {m} e =
+    let k : m ≡ length t = e .ends ∙ zero-add (length t) in
+    sym (take-append-drop m b) ∙ ap₂ _++_ (e .front) (e .rest ∙ ap (λ (i : ℕ). drop i a) k)
+
+pub into-refused : (n : ℕ) (l o : List ℕ) → o ≡ into (refused (№ n 0 0 0)) l o
+unfolding into
+into-refused n l o = refl
+
+refuses : (n : ℕ) → run (writes false n) ≡ refused (№ 22 0 0 0)
+refuses n = sym (writes-not n false refl)
+
+pub written : (ok w : Bool) → ok ≡ w → (v : Verdict) (n : ℕ) → v ≡ run (writes ok n) → (l m : List ℕ) → (ok ≡ true → l ≡ m) → (o p : List ℕ) → p ≡ into v l o
+    → (v ≡ run (writes w n)) × (p ≡ into v m o)
+unfolding into
+written true w e v n q l m f o p r = (q ∙ ap (λ (t : Bool). run (writes t n)) e, r ∙ ap (λ (x : List ℕ). into v x o) (f refl))
+written false w e v n q l m f o p r =
+    let z : v ≡ refused (№ 22 0 0 0) = q ∙ refuses n in
+    (q ∙ ap (λ (t : Bool). run (writes t n)) e, r ∙ ap (λ (x : Verdict). into x l o) z ∙ ap (λ (x : Verdict). into x m o) (sym z))
+
+-- a point
+module _ (b i : ℕ) (e : i ≡ kindOf b) (p : Point) where
+  abbrev state : Bool
+  state = sameState (stateOf (textOf 2 0 (p .code))) (stateIn (p .state))
+
+  abbrev fits : Bool
+  fits = writable (pointRows sps93 i) (pointValues (pointOf p))
+
+  whole : ((leb 1 i && leb i 2) && (state && fits)) ≡ pointWrites b (pointOf p)
+  unfolding pointWrites pointOf
+  whole =
+      ap (λ (k : ℕ). (leb 1 k && leb k 2) && (state && writable (pointRows sps93 k) (pointValues (pointOf p)))) e
+
+  pub point-low : i < 1 → false ≡ pointWrites b (pointOf p)
+  point-low h = (rw (lt-leb 1 i h)) ∙ whole
+
+  module _ (o : 1 ≤ i) where
+    pub point-high : 2 < i → false ≡ pointWrites b (pointOf p)
+    point-high h = (rw (le-leb 1 i o, lt-leb i 2 h)) ∙ whole
+
+    module _ (h : i ≤ 2) (t : Bool) (q : t ≡ state) where
+      pub point-other : t ≡ false → false ≡ pointWrites b (pointOf p)
+      point-other f = (rw (le-leb 1 i o, le-leb i 2 h, ← q, f)) ∙ whole
+
+      module _ (y : t ≡ true) (xs : List PaperValue) (g : xs ≡ pointValues (pointOf p)) where
+        pub point-goes : (u : Bool) → u ≡ writable (pointRows sps93 i) xs → u ≡ pointWrites b (pointOf p)
+        point-goes u f = f ∙ ap (writable (pointRows sps93 i)) g ∙ (rw (le-leb 1 i o, le-leb i 2 h, ← q, y)) ∙ whole
+
+        pub point-line-is : (c : ℕ) → c ≡ letter i → (l : List ℕ) → l ≡ lineOf c (pointRows sps93 i) xs → l ≡ pointLine (kindOf b) (pointOf p)
+        point-line-is c k l f =
+            f ∙ ap₂ (λ (d : ℕ) (ys : List PaperValue). lineOf d (pointRows sps93 i) ys) k g
+            ∙ ap (λ (j : ℕ). pointLine j (pointOf p)) e
+
+-- a relation
+module _ (q : Relation) (t : Bool) (e : t ≡ counted (reachOf (q .reach))) where
+  pub relation-not : t ≡ false → false ≡ relationWrites (relationOf q)
+  unfolding relationWrites relationOf
+  relation-not f = sym (ap (λ (u : Bool). writable (relationRows sps93) (relationValues (relationOf q)) && u) (sym e ∙ f)
+      ∙ and-false (writable (relationRows sps93) (relationValues (relationOf q))))
+
+  module _ (y : t ≡ true) (xs : List PaperValue) (g : xs ≡ relationValues (relationOf q)) where
+    pub relation-goes : (u : Bool) → u ≡ writable (relationRows sps93) xs → u ≡ relationWrites (relationOf q)
+    unfolding relationWrites relationOf
+    relation-goes u f =
+        f ∙ ap (writable (relationRows sps93)) g
+        ∙ sym (ap (λ (u : Bool). writable (relationRows sps93) (relationValues (relationOf q)) && u) (sym e ∙ y)
+        ∙ and-true (writable (relationRows sps93) (relationValues (relationOf q))))
+
+    pub relation-line-is : (l : List ℕ) → l ≡ lineOf 88 (relationRows sps93) xs → l ≡ relationLine (relationOf q)
+    unfolding letter pick
+    relation-line-is l f = f ∙ ap (lineOf 88 (relationRows sps93)) g
