@@ -1,3 +1,4 @@
 pub mod Coded
 pub mod Texts
 pub mod Columns
+pub mod Said
