@@ -1,13 +1,11 @@
 -- The contracts of this crate leave one outcome: any two verdicts, and contents of the lent slice, that meet one are the same.
+use Prim.Native.Nat.{ℕ}
 use mathlib.Core.Path.{_≡_, refl, ap, sym, _∙_}
 use mathlib.Core.List.{List}
-use Prim.Native.Nat.{ℕ}
 use Rattle.rules.specs.Plan.{Verdict as PaperVerdict}
 use Rattle.rules.specs.Writer.{into}
 use Rattle.outcome.specs.One.{One, both}
 use Rattle.lines.proofs.One.{verdict-one}
-use Rattle.lines.specs.Paper.{paper}
-use Rattle.lines.specs.declared.Verdict.{Verdict}
 use Rattle.writer.proofs.write_point as write-point
 use Rattle.writer.proofs.write_point.Reads as write-point-reads
 use Rattle.writer.proofs.write_relation as write-relation

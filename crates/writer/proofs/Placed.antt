@@ -1,10 +1,10 @@
 -- A value in the columns of its field.
-use Prim.Native.Nat.{ℕ, suc, _+_, _-_, _≤_, _<_, min}
+use Prim.Native.Nat.{ℕ, _+_, _-_, _≤_, _<_}
 use native.Mathlib.Omega.{arith}
 use mathlib.Core.Path.{_≡_, refl, sym, ap, ap₂, _∙_}
 use mathlib.Core.Bool.{Bool, true, false, _&&_}
 use mathlib.Core.List.{List, _++_}
-use lib.Dec.{leb, eqb}
+use lib.Dec.{leb}
 use lib.ListN.{length, take, replicate, length-append, length-replicate, length-take}
 use borrow.Author.Tests.{le-leb, lt-leb, eq-eqb, leb-true, leb-false}
 use Rattle.rules.proofs.Tests.{and-is}

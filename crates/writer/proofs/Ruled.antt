@@ -1,9 +1,9 @@
 -- A field's rule, by what the code holds of it.
-use Prim.Native.Nat.{ℕ, _+_, _-_, _≤_, _<_}
+use Prim.Native.Nat.{ℕ, _+_, _-_, _≤_}
 use native.Mathlib.Omega.{arith}
 use mathlib.Core.Path.{_≡_, refl, sym, ap, _∙_}
 use mathlib.Core.Bool.{Bool, true, false}
-use mathlib.Core.List.{List, []}
+use mathlib.Core.List.{List}
 use lib.IntN.{ℤ}
 use Rattle.rules.specs.Kinds.{Kind as PaperKind}
 use Rattle.rules.specs.Spelled.{allowsText, allowsNumber, allowsNothing, allows, spelledAs, spelled}
@@ -23,7 +23,6 @@ use Rattle.writer.specs.declared.values.Value.the-variants.{Text, Number
 use Rattle.writer.proofs.Spelling.{text-short}
 use Rattle.writer.proofs.Printed.{name-narrow, code-narrow}
 
--- the columns of a row
 module _ (w : Row) (s : sized (w .kind) (w .first) (w .last) ≡ true) where
   pub width-any : 1 ≤ widthOf (rowOf w .columns)
   width-any = let h = sized-is (w .kind) (w .first) (w .last) s in omega arith

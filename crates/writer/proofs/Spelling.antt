@@ -1,6 +1,6 @@
 -- The text of a value at the start of a buffer.
 use Prim.Native.Nat.{ℕ, zero, suc, _+_, _-_, _/_, _%_, _^_, _≤_, _<_}
-use native.Mathlib.Nat.{add-zero, pow-suc, div-lt-iff-lt-mul}
+use native.Mathlib.Nat.{add-zero, pow-suc}
 use native.Mathlib.Omega.{arith}
 use mathlib.Core.Path.{_≡_, refl, sym, ap, ap₂, _∙_}
 use mathlib.Core.Bool.{Bool}
@@ -12,7 +12,7 @@ use borrow.Author.Tests.{le-leb, lt-leb}
 use Rattle.rules.specs.Places.{pick}
 use Rattle.rules.specs.Figures.{decimalOf}
 use Rattle.rules.specs.Kinds.{coordinate}
-use Rattle.rules.specs.Spelled.{padded, withPoint, waterFigures, bySign, spelledAs}
+use Rattle.rules.specs.Spelled.{padded, withPoint, waterFigures, spelledAs}
 use Rattle.fields.specs.Paper.{kind}
 use Rattle.fields.specs.declared.Kind.{Kind}
 use Rattle.texts.specs.Buffer.{Adds}
@@ -89,7 +89,9 @@ pub bytes-long : (n v : ℕ) → length (bytesOf n v) ≡ n
 unfolding bytesOf
 bytes-long zero v = refl
 bytes-long (suc zero) v = refl
-bytes-long (suc (suc n)) v = length-append (bytesOf (suc n) (v / 256)) (v % 256 ∷ []) ∙ rw (bytes-long (suc n) (v / 256)) (let z : suc n + 1 ≡ suc (suc n) = omega arith in z)
+bytes-long (suc (suc n)) v =
+    length-append (bytesOf (suc n) (v / 256)) (v % 256 ∷ [])
+    ∙ rw (bytes-long (suc n) (v / 256)) (let z : suc n + 1 ≡ suc (suc n) = omega arith in z)
 
 pub small-one : (n v : ℕ) → n ≤ 1 → v < 256 ^ n → v < 256
 small-one zero v h g = omega arith

@@ -1,7 +1,6 @@
 -- The fields of a table, one after the other.
 use Prim.Native.Nat.{ℕ, zero, suc, _+_, _-_, _≤_, _<_}
 use native.Mathlib.Numerals.{add-one}
-use native.Mathlib.Nat.{add-assoc}
 use native.Mathlib.Omega.{arith}
 use mathlib.Core.Path.{_≡_, refl, sym, ap, ap₂, _∙_}
 use mathlib.Core.Bool.{Bool, true, false, _&&_}
@@ -26,7 +25,6 @@ use Rattle.writer.specs.Coded.{valueOf, valuesOf}
 use Rattle.writer.specs.Columns.{columnsTo}
 use Rattle.writer.specs.declared.values.Value.{Value}
 
--- each field begins where the one before it ends
 abbrev follows : List Row → ℕ → Bool
 follows ws j = eqb (columnsTo (take j ws) + 1) (getD ws j noRow .columns .first)
 
@@ -140,7 +138,7 @@ module _ (t : Table) (vs : List Value) (n : length vs ≡ 14) (d : Value) where
           place : w .columns .last ≡ columnsTo (take (j + 1) ws)
           place =
               let k = ap (λ (i : ℕ). columnsTo (take i ws)) (add-one j) ∙ columns-more ws j h
-                  ∙ ap (λ (r : Row). columnsTo (take j ws) + widthOf (r .columns)) (sym q) in
+              ∙ ap (λ (r : Row). columnsTo (take j ws) + widthOf (r .columns)) (sym q) in
               let p = fields-place in
               let f = follow-on t j h ∙ ap (λ (r : Row). r .columns .first) (sym q) in
               omega arith

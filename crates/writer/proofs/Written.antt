@@ -6,16 +6,16 @@ use mathlib.Core.Path.{_≡_, refl, sym, ap, ap₂, _∙_}
 use mathlib.Core.Bool.{Bool, true, false, not, _&&_, and-false, and-true}
 use mathlib.Core.List.{List, [], _∷_, _++_}
 use lib.Dec.{leb, eqb}
-use lib.ListN.{length, take, drop, take-append-drop}
+use lib.ListN.{length, drop, take-append-drop}
 use borrow.Author.Tests.{le-leb, lt-leb, eq-eqb, ne-eqb, eqb-true}
 use Rattle.rules.specs.Places.{pick}
-use Rattle.rules.specs.Plan.{Verdict, fine, refused, _orElse_, №, need, _before_, run}
+use Rattle.rules.specs.Plan.{Verdict, fine, refused, №, _before_, run}
 use Rattle.rules.specs.Text.{same, bytes}
 use Rattle.rules.specs.Layout.{sps93}
 use Rattle.rules.specs.Lines.{letter, kindOf}
 use Rattle.rules.specs.Points.{State as PaperState, live, killed, marker, stateOf}
 use Rattle.rules.specs.Cover.{traces, receivers}
-use Rattle.rules.specs.Rows.{Row, pointRows, relationRows}
+use Rattle.rules.specs.Rows.{pointRows, relationRows}
 use Rattle.rules.specs.Form.{rule6}
 use Rattle.rules.specs.Values.{Value as PaperValue, pointValues, relationValues}
 use Rattle.rules.specs.Writer.{writable, lineOf, pointLine, relationLine, sameState, pointWrites, relationWrites, counted, writes, into}
@@ -31,18 +31,17 @@ use Rattle.texts.specs.Buffer.{Adds}
 use Rattle.writer.specs.Coded.{bytesOf, textOf, stateIn, pointOf, reachOf, relationOf}
 use Rattle.writer.proofs.Spelling.{text-short}
 
--- a code of two letters as one number
 pair-is : (a b c n : ℕ) → b < 256 → n ≡ 256 * a + b → (eqb (c / 256) a && (eqb (c % 256) b && true)) ≡ eqb c n
 pair-is a b c n h e =
     agree (eqb (c / 256) a && (eqb (c % 256) b && true)) (eqb c n)
     (λ t.
-        let p = and-is (eqb (c / 256) a) (eqb (c % 256) b && true) .0 t in
-        let q = and-is (eqb (c % 256) b) true .0 (p .1) in
-        eq-eqb c n (omega (arith, eqb-true (c / 256) a (p .0), eqb-true (c % 256) b (q .0))))
+    let p = and-is (eqb (c / 256) a) (eqb (c % 256) b && true) .0 t in
+    let q = and-is (eqb (c % 256) b) true .0 (p .1) in
+    eq-eqb c n (omega (arith, eqb-true (c / 256) a (p .0), eqb-true (c % 256) b (q .0))))
     (λ t.
-        let k = eqb-true c n t in
-        and-is (eqb (c / 256) a) (eqb (c % 256) b && true) .1
-        (eq-eqb (c / 256) a (omega arith), and-is (eqb (c % 256) b) true .1 (eq-eqb (c % 256) b (omega arith), refl)))
+    let k = eqb-true c n t in
+    and-is (eqb (c / 256) a) (eqb (c % 256) b && true) .1
+    (eq-eqb (c / 256) a (omega arith), and-is (eqb (c % 256) b) true .1 (eq-eqb (c % 256) b (omega arith), refl)))
 
 letters : (c : ℕ) → textOf 2 0 c ≡ c / 256 ∷ c % 256 ∷ []
 unfolding bytesOf

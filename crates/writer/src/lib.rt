@@ -70,7 +70,12 @@ fn point_line(letter: u64, p: Point, line: &mut [u8; 82]) -> bool
     if !agrees(p.code, s) {
         return false;
     }
-    line::line_of(lines::letter(i), Table::Point(i), values::point_values(p), line)
+    line::line_of(
+        lines::letter(i),
+        Table::Point(i),
+        values::point_values(p),
+        line,
+    )
 }
 
 // The line of a relation, where its values go into it and agree with 6.

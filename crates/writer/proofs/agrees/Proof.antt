@@ -1,13 +1,9 @@
-use Prim.Native.Nat.{ℕ, _+_, _-_, _*_, _≤_, _<_}
-use mathlib.Core.Path.{_≡_, refl, ap, sym, _∙_}
-use native.Mathlib.Omega.{arith}
-use lib.ListN.{length, take, drop, getD}
+-- `writer::agrees` meets its contract. Assumes nothing.
+use Prim.Native.Nat.{_-_}
 use borrow.Author.Needs.{needs}
 use Rattle.writer.proofs.Written.{agrees-marker, agrees-live, agrees-killed, agrees-never}
 use Rattle.writer.proofs.agrees.Statement.{statement}
 use Rattle.writer.proofs.agrees.Tie as tie
-use Rattle.writer.proofs.agrees.Reads as reads
-use Rattle.writer.proofs.agrees.Lts as lts
 
 returns : tie.Need-returns
 returns c = agrees-marker (c .before .args .code) (c .before .args .s) (c .if1 .taken)

@@ -1,16 +1,12 @@
-use Prim.Native.Nat.{ℕ, _+_, _-_, _*_, _≤_, _<_}
-use mathlib.Core.Path.{_≡_, refl, ap, sym, _∙_}
-use native.Mathlib.Omega.{arith}
-use lib.ListN.{length, take, drop, getD}
+-- `writer::counted` meets its contract. Assumes nothing.
+use Prim.Native.Nat.{_-_}
+use mathlib.Core.Path.{ap, sym, _∙_}
 use borrow.Author.Needs.{needs}
-use Rattle.writer.proofs.Written.{counted-is, counted-not}
-use Rattle.records.proofs.Reaches.{paperReach, reach-coded}
 use Rattle.lines.specs.Paper.{paper}
+use Rattle.records.proofs.Reaches.{paperReach, reach-coded}
+use Rattle.writer.proofs.Written.{counted-is, counted-not}
 use Rattle.writer.proofs.counted.Statement.{statement}
 use Rattle.writer.proofs.counted.Tie as tie
-use Rattle.writer.proofs.counted.Reads as reads
-use Rattle.writer.proofs.counted.Lts as lts
-use Rattle.records.proofs.fits.counts.Reads as counts-reads
 
 counts-requires : tie.Need-counts-requires
 counts-requires c κs = search needs

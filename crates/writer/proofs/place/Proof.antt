@@ -1,15 +1,10 @@
-use Prim.Native.Nat.{ℕ, _+_, _-_, _*_, _≤_, _<_}
-use mathlib.Core.Path.{_≡_, refl, ap, sym, _∙_}
-use native.Mathlib.Omega.{arith}
-use lib.ListN.{length, take, drop, getD}
+-- `writer::place` meets its contract. Assumes nothing.
+use Prim.Native.Nat.{_-_}
 use borrow.Author.Needs.{needs}
-use Rattle.writer.proofs.Written.{writes-not, writes-short, writes-fine, into-fine, into-refused}
 use borrow.Author.Tests.{not-true, not-false}
+use Rattle.writer.proofs.Written.{writes-not, writes-short, writes-fine, into-fine, into-refused}
 use Rattle.writer.proofs.place.Statement.{statement}
 use Rattle.writer.proofs.place.Tie as tie
-use Rattle.writer.proofs.place.Reads as reads
-use Rattle.writer.proofs.place.Lts as lts
-use Rattle.texts.proofs.add.Reads as add-reads
 
 returns : tie.Need-returns
 returns c = (writes-not _ _ (not-true _ (c .if1 .taken)), into-refused 22 _ _)
@@ -24,7 +19,9 @@ same-length : tie.Need-same-length
 same-length c = search needs
 
 returns-3 : tie.Need-returns-3
-returns-3 c = (writes-fine _ _ (not-false _ (c .before .before .before .before .before .before .if1 .left)) (c .before .before .before .before .before .if2 .left), into-fine (c .before .before .add .ensures))
+returns-3 c =
+    let b = c .before .before .before .before .before in
+    (writes-fine _ _ (not-false _ (b .before .if1 .left)) (b .if2 .left), into-fine (c .before .before .add .ensures))
 
 pub place-spec : {M : Type 1} → statement M
 place-spec = tie.close (tie.spec returns returns-2 add-requires same-length returns-3)

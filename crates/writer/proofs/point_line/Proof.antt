@@ -1,27 +1,18 @@
-use Prim.Native.Nat.{ℕ, _+_, _-_, _*_, _≤_, _<_}
-use mathlib.Core.Path.{_≡_, refl, ap, sym, _∙_}
-use native.Mathlib.Omega.{arith}
-use lib.ListN.{length, take, drop, getD}
-use borrow.Author.Needs.{needs}
-use Rattle.writer.proofs.Written.{point-low, point-high, point-other, point-goes, point-line-is}
+-- `writer::point_line` meets its contract. Assumes nothing.
+use Prim.Native.Nat.{_-_}
+use mathlib.Core.Path.{refl}
 use borrow.Author.Tests.{not-true, not-false}
 use Rattle.rules.proofs.Tests.{clash}
 use Rattle.rules.specs.Layout.{sps93}
 use Rattle.rules.specs.Rows.{pointRows}
 use Rattle.records.specs.Coded.{rowsOf}
 use Rattle.writer.specs.Columns.{columnsTo}
+use Rattle.writer.proofs.Written.{point-low, point-high, point-other, point-goes, point-line-is}
 use Rattle.writer.proofs.point_line.Statement.{statement}
 use Rattle.writer.proofs.point_line.Tie as tie
-use Rattle.writer.proofs.point_line.Reads as reads
-use Rattle.writer.proofs.point_line.Lts as lts
-use Rattle.lines.proofs.kind_of.Reads as kind-of-reads
-use Rattle.lines.proofs.letter.Reads as letter-reads
-use Rattle.writer.proofs.agrees.Reads as agrees-reads
-use Rattle.writer.proofs.line.line_of.Reads as line-of-reads
-use Rattle.writer.proofs.values.point_values.Reads as point-values-reads
 
 kind-of-requires : tie.Need-kind-of-requires
-kind-of-requires c κs = search needs
+kind-of-requires c κs = tt
 
 returns : tie.Need-returns
 returns c =
@@ -36,19 +27,22 @@ returns-2 c =
     (point-high (s .args .letter) (k .kind-of .result) (k .kind-of .ensures) (s .args .p) (c .before .if1 .left) (c .if2 .taken), λ e. clash e)
 
 agrees-requires : tie.Need-agrees-requires
-agrees-requires c κs = search needs
+agrees-requires c κs = tt
 
 returns-3 : tie.Need-returns-3
 returns-3 c =
     let k = c .before .before .before .before in
-    let s = k .before in
-    (point-other (s .args .letter) (k .kind-of .result) (k .kind-of .ensures) (s .args .p) (c .before .before .before .if1 .left) (c .before .before .if2 .left) _ (c .before .agrees .ensures) (not-true _ (c .if3 .taken)), λ e. clash e)
+    let s = k .before in (
+      point-other (s .args .letter) (k .kind-of .result) (k .kind-of .ensures) (s .args .p)
+          (c .before .before .before .if1 .left) (c .before .before .if2 .left) _ (c .before .agrees .ensures) (not-true _ (c .if3 .taken)),
+      λ e. clash e,
+    )
 
 letter-requires : tie.Need-letter-requires
-letter-requires c κs = search needs
+letter-requires c κs = tt
 
 point-values-requires : tie.Need-point-values-requires
-point-values-requires c κs = search needs
+point-values-requires c κs = tt
 
 line-of-requires : tie.Need-line-of-requires
 unfolding rowsOf pointRows sps93 columnsTo
@@ -66,7 +60,8 @@ returns-4 c =
     let y = not-false _ (d .if3 .left) in
     let v = c .before .before .point-values .ensures (k .kind-of .result) in (
       point-goes (s .args .letter) (k .kind-of .result) (k .kind-of .ensures) (s .args .p) o h _ t y _ v _ (c .line-of .ensures .0),
-      λ e. point-line-is (s .args .letter) (k .kind-of .result) (k .kind-of .ensures) (s .args .p) o h _ t y _ v _ (c .before .before .before .letter .ensures) _ (c .line-of .ensures .1 e),
+      λ e. point-line-is (s .args .letter) (k .kind-of .result) (k .kind-of .ensures) (s .args .p) o h _ t y _ v _
+          (c .before .before .before .letter .ensures) _ (c .line-of .ensures .1 e),
     )
 
 pub point-line-spec : {M : Type 1} → statement M

@@ -1,31 +1,24 @@
-use Prim.Native.Nat.{ℕ, _+_, _-_, _*_, _≤_, _<_}
-use mathlib.Core.Path.{_≡_, refl, ap, sym, _∙_}
-use native.Mathlib.Omega.{arith}
-use lib.ListN.{length, take, drop, getD}
-use borrow.Author.Needs.{needs}
-use Rattle.writer.proofs.Written.{relation-not, relation-goes, relation-line-is}
+-- `writer::relation_line` meets its contract. Assumes nothing.
+use Prim.Native.Nat.{_-_}
+use mathlib.Core.Path.{refl}
 use borrow.Author.Tests.{not-true, not-false}
 use Rattle.rules.proofs.Tests.{clash}
 use Rattle.rules.specs.Layout.{sps93}
 use Rattle.rules.specs.Rows.{relationRows}
 use Rattle.records.specs.Coded.{rowsOf}
 use Rattle.writer.specs.Columns.{columnsTo}
+use Rattle.writer.proofs.Written.{relation-not, relation-goes, relation-line-is}
 use Rattle.writer.proofs.relation_line.Statement.{statement}
 use Rattle.writer.proofs.relation_line.Tie as tie
-use Rattle.writer.proofs.relation_line.Reads as reads
-use Rattle.writer.proofs.relation_line.Lts as lts
-use Rattle.writer.proofs.counted.Reads as counted-reads
-use Rattle.writer.proofs.line.line_of.Reads as line-of-reads
-use Rattle.writer.proofs.values.relation_values.Reads as relation-values-reads
 
 counted-requires : tie.Need-counted-requires
-counted-requires c κs = search needs
+counted-requires c κs = tt
 
 returns : tie.Need-returns
 returns c = (relation-not (c .before .before .before .args .q) _ (c .before .counted .ensures) (not-true _ (c .if1 .taken)), λ e. clash e)
 
 relation-values-requires : tie.Need-relation-values-requires
-relation-values-requires c κs = search needs
+relation-values-requires c κs = tt
 
 line-of-requires : tie.Need-line-of-requires
 unfolding rowsOf relationRows sps93 columnsTo

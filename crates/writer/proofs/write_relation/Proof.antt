@@ -1,21 +1,15 @@
-use Prim.Native.Nat.{ℕ, _+_, _-_, _*_, _≤_, _<_}
-use mathlib.Core.Path.{_≡_, refl, ap, sym, _∙_}
-use native.Mathlib.Omega.{arith}
-use lib.ListN.{length, take, drop, getD}
+-- `writer::write_relation` meets its contract. Assumes nothing.
+use Prim.Native.Nat.{_-_}
 use borrow.Author.Needs.{needs}
 use Rattle.writer.proofs.Written.{written}
 use Rattle.writer.proofs.write_relation.Statement.{statement}
 use Rattle.writer.proofs.write_relation.Tie as tie
-use Rattle.writer.proofs.write_relation.Reads as reads
-use Rattle.writer.proofs.write_relation.Lts as lts
-use Rattle.writer.proofs.place.Reads as place-reads
-use Rattle.writer.proofs.relation_line.Reads as relation-line-reads
 
 relation-line-requires : tie.Need-relation-line-requires
-relation-line-requires c κs = search needs
+relation-line-requires c κs = tt
 
 place-requires : tie.Need-place-requires
-place-requires c κs = search needs
+place-requires c κs = tt
 
 same-length : tie.Need-same-length
 same-length c = search needs

@@ -1,18 +1,10 @@
-use Prim.Native.Nat.{ℕ, _+_, _-_, _*_, _≤_, _<_}
-use mathlib.Core.Path.{_≡_, refl, ap, sym, _∙_}
-use native.Mathlib.Omega.{arith}
-use lib.ListN.{length, take, drop, getD}
+-- `writer::allowed::allows` meets its contract. Assumes nothing.
+use Prim.Native.Nat.{_-_}
 use borrow.Author.Needs.{needs}
 use Rattle.writer.proofs.Signed.{signs-back}
 use Rattle.writer.proofs.Ruled.{text-allowed, number-allowed, nothing-allowed}
 use Rattle.writer.proofs.allowed.allows.Statement.{statement}
 use Rattle.writer.proofs.allowed.allows.Tie as tie
-use Rattle.writer.proofs.allowed.allows.Reads as reads
-use Rattle.writer.proofs.allowed.allows.Lts as lts
-use Rattle.writer.proofs.allowed.filled.Reads as filled-reads
-use Rattle.writer.proofs.allowed.number.Reads as number-reads
-use Rattle.writer.proofs.signs.is_minus.Reads as is-minus-reads
-use Rattle.writer.proofs.signs.size.Reads as size-reads
 
 enum-known-v : tie.Need-enum-known-v
 enum-known-v c = search needs
@@ -24,10 +16,10 @@ enum-known-v-2 : tie.Need-enum-known-v-2
 enum-known-v-2 c = search needs
 
 is-minus-requires : tie.Need-is-minus-requires
-is-minus-requires c κs = search needs
+is-minus-requires c κs = tt
 
 size-requires : tie.Need-size-requires
-size-requires c κs = search needs
+size-requires c κs = tt
 
 number-requires : tie.Need-number-requires
 number-requires c κs = search needs
@@ -44,7 +36,8 @@ returns-2 : tie.Need-returns-2
 returns-2 c =
     let b = c .before .before .before .before .before .before in
     let z = c .before .before .before .before .v2 .given .0 .0 in
-    number-allowed (b .args .w) (b .pre) (b .args .v) z (c .before .before .before .before .v2 .given .1) _ (c .number .ensures z (signs-back z (search needs) _ _ (c .before .before .is-minus .ensures) (c .before .size .ensures)))
+    number-allowed (b .args .w) (b .pre) (b .args .v) z (c .before .before .before .before .v2 .given .1) _
+    (c .number .ensures z (signs-back z (search needs) _ _ (c .before .before .is-minus .ensures) (c .before .size .ensures)))
 
 returns-3 : tie.Need-returns-3
 returns-3 c =

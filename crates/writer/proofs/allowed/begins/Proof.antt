@@ -1,16 +1,10 @@
-use Prim.Native.Nat.{ℕ, _+_, _-_, _*_, _≤_, _<_}
-use mathlib.Core.Path.{_≡_, refl, ap, sym, _∙_}
-use native.Mathlib.Omega.{arith}
-use lib.ListN.{length, take, drop, getD}
+-- `writer::allowed::begins` meets its contract. Assumes nothing.
+use Prim.Native.Nat.{_-_}
 use borrow.Author.Needs.{needs}
-use Rattle.writer.proofs.Printed.{begins-not, begins-is}
 use borrow.Author.Tests.{not-true, not-false}
+use Rattle.writer.proofs.Printed.{begins-not, begins-is}
 use Rattle.writer.proofs.allowed.begins.Statement.{statement}
 use Rattle.writer.proofs.allowed.begins.Tie as tie
-use Rattle.writer.proofs.allowed.begins.Reads as reads
-use Rattle.writer.proofs.allowed.begins.Lts as lts
-use Rattle.writer.proofs.allowed.first.Reads as first-reads
-use Rattle.writer.proofs.allowed.printed.Reads as printed-reads
 
 printed-requires : tie.Need-printed-requires
 printed-requires c κs = search needs

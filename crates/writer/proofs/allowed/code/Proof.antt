@@ -1,15 +1,11 @@
-use Prim.Native.Nat.{ℕ, _+_, _-_, _*_, _≤_, _<_}
-use mathlib.Core.Path.{_≡_, refl, ap, sym, _∙_}
-use native.Mathlib.Omega.{arith}
-use lib.ListN.{length, take, drop, getD}
+-- `writer::allowed::code` meets its contract. Assumes nothing.
+use Prim.Native.Nat.{_-_}
+use mathlib.Core.Path.{ap, sym, _∙_}
 use borrow.Author.Needs.{needs}
-use Rattle.writer.proofs.Printed.{code-wide, code-two}
 use Rattle.rules.specs.Kinds.{isCode}
+use Rattle.writer.proofs.Printed.{code-wide, code-two}
 use Rattle.writer.proofs.allowed.code.Statement.{statement}
 use Rattle.writer.proofs.allowed.code.Tie as tie
-use Rattle.writer.proofs.allowed.code.Reads as reads
-use Rattle.writer.proofs.allowed.code.Lts as lts
-use Rattle.fields.proofs.families.is_code.Reads as is-code-reads
 
 returns : tie.Need-returns
 returns c = code-wide (c .before .args .i) (c .before .args .v) (c .if1 .taken)
@@ -21,7 +17,7 @@ cast-is-code-2 : tie.Need-cast-is-code-2
 cast-is-code-2 c = search needs
 
 is-code-requires : tie.Need-is-code-requires
-is-code-requires c κs = search needs
+is-code-requires c κs = tt
 
 returns-2 : tie.Need-returns-2
 returns-2 c = c .is-code .ensures ∙ ap (isCode (c .before .before .args .i)) (sym (code-two (c .before .before .args .v)))

@@ -1,18 +1,13 @@
-use Prim.Native.Nat.{ℕ, _+_, _-_, _*_, _≤_, _<_}
-use mathlib.Core.Path.{_≡_, refl, ap, sym, _∙_}
-use native.Mathlib.Omega.{arith}
-use lib.ListN.{length, take, drop, getD}
+-- `writer::allowed::filled` meets its contract. Assumes nothing.
+use Prim.Native.Nat.{ℕ, _-_}
+use mathlib.Core.Path.{ap, _∙_}
 use borrow.Author.Needs.{needs}
-use Rattle.writer.proofs.Ruled.{text-blank, text-kept, width-any, width-two}
 use Rattle.rules.specs.Spelled.{allowsText}
 use Rattle.fields.specs.Paper.{kind}
 use Rattle.writer.specs.Coded.{textOf}
+use Rattle.writer.proofs.Ruled.{text-blank, text-kept, width-any, width-two}
 use Rattle.writer.proofs.allowed.filled.Statement.{statement}
 use Rattle.writer.proofs.allowed.filled.Tie as tie
-use Rattle.writer.proofs.allowed.filled.Reads as reads
-use Rattle.writer.proofs.allowed.filled.Lts as lts
-use Rattle.writer.proofs.allowed.text.Reads as text-reads
-use Rattle.writer.proofs.rows.width.Reads as width-reads
 
 returns : tie.Need-returns
 returns c = text-blank (c .before .args .w .blank) _ _ (c .if1 .taken)

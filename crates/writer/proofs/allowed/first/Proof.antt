@@ -1,15 +1,13 @@
-use Prim.Native.Nat.{ℕ, _+_, _-_, _*_, _≤_, _<_}
-use mathlib.Core.Path.{_≡_, refl, ap, sym, _∙_}
+-- `writer::allowed::first` meets its contract. Assumes nothing.
+use Prim.Native.Nat.{_-_, _≤_}
 use native.Mathlib.Omega.{arith}
+use mathlib.Core.Path.{_≡_, refl}
 use borrow.Author.Needs.{needs}
-use lib.ListN.{length, take, drop, getD}
-use Rattle.writer.proofs.Printed.{first-step, first-end}
 use Rattle.rules.specs.Text.{col}
 use Rattle.writer.specs.Coded.{bytesOf}
+use Rattle.writer.proofs.Printed.{first-step, first-end}
 use Rattle.writer.proofs.allowed.first.Statement.{statement}
 use Rattle.writer.proofs.allowed.first.Tie as tie
-use Rattle.writer.proofs.allowed.first.Reads as reads
-use Rattle.writer.proofs.allowed.first.Lts as lts
 
 abbrev Inv-loop : tie.InvT-loop
 Inv-loop n v k₀ r₀ k r = (1 ≤ k) × (col (bytesOf k r) 1 ≡ col (bytesOf n v) 1)

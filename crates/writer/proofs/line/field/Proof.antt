@@ -1,21 +1,15 @@
-use Prim.Native.Nat.{ℕ, _+_, _-_, _*_, _≤_, _<_}
-use mathlib.Core.Path.{_≡_, refl, ap, sym, _∙_}
+-- `writer::line::field` meets its contract. Assumes nothing.
+use Prim.Native.Nat.{ℕ, _-_}
 use native.Mathlib.Omega.{arith}
-use lib.ListN.{length, take, drop, getD, length-replicate}
+use mathlib.Core.Path.{sym, _∙_}
+use lib.ListN.{length-replicate}
 use borrow.Author.Needs.{needs}
-use Rattle.writer.proofs.Placed.{goes-not, goes-wide, starts-within, starts-count, goes-in, goes-there}
 use borrow.Author.Tests.{not-true, not-false}
 use Rattle.rules.proofs.Tests.{clash}
 use Rattle.fields.proofs.Widths.{sized-is}
+use Rattle.writer.proofs.Placed.{goes-not, goes-wide, starts-within, starts-count, goes-in, goes-there}
 use Rattle.writer.proofs.line.field.Statement.{statement}
 use Rattle.writer.proofs.line.field.Tie as tie
-use Rattle.writer.proofs.line.field.Reads as reads
-use Rattle.writer.proofs.line.field.Lts as lts
-use Rattle.texts.proofs.add.Reads as add-reads
-use Rattle.texts.proofs.fill.Reads as fill-reads
-use Rattle.writer.proofs.allowed.allows.Reads as allows-reads
-use Rattle.writer.proofs.rows.width.Reads as width-reads
-use Rattle.writer.proofs.spell.text.Reads as text-reads
 
 allows-requires : tie.Need-allows-requires
 allows-requires c κs = search needs
@@ -36,8 +30,11 @@ width-requires c κs = search needs
 returns-2 : tie.Need-returns-2
 returns-2 c =
     let b = c .before .before .before in
-    let a = b .before .before .before in
-    (goes-wide (a .args .w) (a .pre) (a .args .v) _ (b .before .before .allows .ensures) (not-false _ (b .before .if1 .left)) _ _ (c .before .before .text .ensures) _ (c .before .width .ensures) (c .if2 .taken), λ e. clash e)
+    let a = b .before .before .before in (
+      goes-wide (a .args .w) (a .pre) (a .args .v) _ (b .before .before .allows .ensures) (not-false _ (b .before .if1 .left)) _ _
+          (c .before .before .text .ensures) _ (c .before .width .ensures) (c .if2 .taken),
+      λ e. clash e,
+    )
 
 sub-fill : tie.Need-sub-fill
 sub-fill c =
@@ -63,7 +60,9 @@ add-requires c κs =
     let a = f .before .before .before .before .before .before .before .before .before in
     let h = sized-is _ _ _ (a .pre) in
     let n = starts-count _ _ _ t in
-    omega (arith, f .before .before .before .before .width .ensures, f .fill .ensures .ends, length-replicate {A = ℕ} (f .before .before .before .before .width .result - f .before .before .before .before .before .text .result) 32)
+    let k = f .before .before .before .before in
+    let l = length-replicate {A = ℕ} (k .width .result - k .before .text .result) 32 in
+    omega (arith, k .width .ensures, f .fill .ensures .ends)
 
 returns-3 : tie.Need-returns-3
 returns-3 c =

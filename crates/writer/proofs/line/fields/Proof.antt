@@ -1,25 +1,26 @@
-use Prim.Native.Nat.{ℕ, _+_, _-_, _*_, _≤_, _<_}
-use mathlib.Core.Path.{_≡_, refl, ap, sym, _∙_}
+-- `writer::line::fields` meets its contract. Assumes nothing.
+use Prim.Native.Nat.{_-_, _≤_, _<_}
 use native.Mathlib.Omega.{arith}
+use mathlib.Core.Path.{_≡_, refl}
+use lib.ListN.{length, take, drop}
 use borrow.Author.Needs.{needs}
-use lib.ListN.{length, take, drop, getD}
+use borrow.Author.Tests.{not-true, not-false}
 use Rattle.rules.specs.Writer.{joined, writable}
+use Rattle.rules.proofs.Tests.{clash}
+use Rattle.fields.proofs.Widths.{sized-is}
 use Rattle.records.specs.Coded.{rowOf, rowsOf}
+use Rattle.records.proofs.table.row_at.Reads as row-at-reads
+use Rattle.records.proofs.table.row_count.Reads as row-count-reads
 use Rattle.texts.specs.Buffer.{Adds}
 use Rattle.writer.specs.Coded.{valuesOf}
 use Rattle.writer.specs.Columns.{columnsTo}
 use Rattle.writer.specs.declared.values.Value.the-variants.{Nothing}
-use Rattle.writer.proofs.Tables.{few-rows, fields-stop, fields-step, fields-more, fields-end, fields-all}
-use borrow.Author.Tests.{not-true, not-false}
-use Rattle.rules.proofs.Tests.{clash}
-use Rattle.fields.proofs.Widths.{sized-is}
 use Rattle.writer.proofs.Spelling.{adds-nothing}
+use Rattle.writer.proofs.Tables.{few-rows, fields-stop, fields-step, fields-more, fields-end, fields-all}
 use Rattle.writer.proofs.line.fields.Statement.{statement}
 use Rattle.writer.proofs.line.fields.Tie as tie
 use Rattle.writer.proofs.line.fields.Reads as reads
 use Rattle.writer.proofs.line.fields.Lts as lts
-use Rattle.records.proofs.table.row_at.Reads as row-at-reads
-use Rattle.records.proofs.table.row_count.Reads as row-count-reads
 use Rattle.writer.proofs.line.field.Reads as field-reads
 
 abbrev Inv-loop : tie.InvT-loop
@@ -75,8 +76,11 @@ returns c =
     let n = r .before .before .before .row-count .ensures in
     let h : at .j < length (rowsOf (s .args .t)) = omega arith in
     let q = r .row-at .ensures in
-    let f = c .before .field .ensures in
-    (fields-stop (s .args .t) (s .args .t2) (long s) _ (at .j) _ (at .inv .1 .0) h (rowOf (r .row-at .result)) (q .0) _ (f .0) (not-true _ (c .if1 .taken)), λ e. clash e)
+    let f = c .before .field .ensures in (
+      fields-stop (s .args .t) (s .args .t2) (long s) _ (at .j) _ (at .inv .1 .0) h (rowOf (r .row-at .result)) (q .0) _
+          (f .0) (not-true _ (c .if1 .taken)),
+      λ e. clash e,
+    )
 
 add-j : tie.Need-add-j Inv-loop μ-loop
 add-j c = search needs
@@ -106,8 +110,10 @@ returns-2 : tie.Need-returns-2 Inv-loop μ-loop
 returns-2 c =
     let at = c .before .loop in
     let s = c .before .before .before in
-    let n = c .before .before .row-count .ensures in
-    (fields-end (s .args .t) (s .args .t2) (long s) Nothing (at .j) _ (at .inv .1 .0) (omega arith), λ e. fields-all (s .args .t) (s .args .t2) (long s) Nothing (at .j) (omega arith) (at .inv .1 .1))
+    let n = c .before .before .row-count .ensures in (
+      fields-end (s .args .t) (s .args .t2) (long s) Nothing (at .j) _ (at .inv .1 .0) (omega arith),
+      λ e. fields-all (s .args .t) (s .args .t2) (long s) Nothing (at .j) (omega arith) (at .inv .1 .1),
+    )
 
 pub fields-spec : {M : Type 1} → statement M
 fields-spec =

@@ -1,24 +1,19 @@
-use Prim.Native.Nat.{ℕ, _+_, _-_, _*_, _≤_, _<_}
-use mathlib.Core.Path.{_≡_, refl, ap, sym, _∙_}
+-- `writer::line::line_of` meets its contract. Assumes nothing.
+use Prim.Native.Nat.{_-_}
 use native.Mathlib.Omega.{arith}
-use lib.ListN.{length, take, drop, getD}
+use mathlib.Core.Path.{sym, _∙_}
 use borrow.Author.Needs.{needs}
-use Rattle.writer.proofs.Tables.{line-is}
 use borrow.Author.Tests.{not-true, not-false}
 use Rattle.rules.proofs.Tests.{clash}
+use Rattle.writer.proofs.Tables.{line-is}
 use Rattle.writer.proofs.line.line_of.Statement.{statement}
 use Rattle.writer.proofs.line.line_of.Tie as tie
-use Rattle.writer.proofs.line.line_of.Reads as reads
-use Rattle.writer.proofs.line.line_of.Lts as lts
-use Rattle.texts.proofs.add.Reads as add-reads
-use Rattle.texts.proofs.byte.Reads as byte-reads
-use Rattle.writer.proofs.line.fields.Reads as fields-reads
 
 byte-requires : tie.Need-byte-requires
 byte-requires c κs = search needs
 
 fields-requires : tie.Need-fields-requires
-fields-requires c κs = search needs
+fields-requires c κs = tt
 
 returns : tie.Need-returns
 returns c = (sym (not-true _ (c .if1 .taken)) ∙ c .before .fields .ensures .0, λ e. clash e)

@@ -1,13 +1,10 @@
-use Prim.Native.Nat.{ℕ, _+_, _-_, _*_, _≤_, _<_}
-use mathlib.Core.Path.{_≡_, refl, ap, sym, _∙_}
+-- `writer::rows::width` meets its contract. Assumes nothing.
+use Prim.Native.Nat.{_-_}
 use native.Mathlib.Omega.{arith}
-use lib.ListN.{length, take, drop, getD}
 use borrow.Author.Needs.{needs}
 use Rattle.fields.proofs.Widths.{sized-is}
 use Rattle.writer.proofs.rows.width.Statement.{statement}
 use Rattle.writer.proofs.rows.width.Tie as tie
-use Rattle.writer.proofs.rows.width.Reads as reads
-use Rattle.writer.proofs.rows.width.Lts as lts
 
 add-result : tie.Need-add-result
 add-result c = let h = sized-is _ _ _ (c .before .pre) in record { fits = omega arith }

@@ -1,13 +1,8 @@
-use Prim.Native.Nat.{ℕ, _+_, _-_, _*_, _≤_, _<_}
-use mathlib.Core.Path.{_≡_, refl, ap, sym, _∙_}
-use native.Mathlib.Omega.{arith}
-use borrow.Author.Needs.{needs}
-use lib.ListN.{length, take, drop, getD}
+-- `writer::signs::is_minus` meets its contract. Assumes nothing.
+use Prim.Native.Nat.{_-_}
 use Rattle.writer.proofs.Signed.{minus-is}
 use Rattle.writer.proofs.signs.is_minus.Statement.{statement}
 use Rattle.writer.proofs.signs.is_minus.Tie as tie
-use Rattle.writer.proofs.signs.is_minus.Reads as reads
-use Rattle.writer.proofs.signs.is_minus.Lts as lts
 
 returns : tie.Need-returns
 returns c = minus-is (c .args .n) (c .fits .n)

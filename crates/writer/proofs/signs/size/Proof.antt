@@ -1,13 +1,9 @@
-use Prim.Native.Nat.{ℕ, _+_, _-_, _*_, _≤_, _<_}
-use mathlib.Core.Path.{_≡_, refl, ap, sym, _∙_}
-use native.Mathlib.Omega.{arith}
-use lib.ListN.{length, take, drop, getD}
-use borrow.Author.Needs.{needs}
+-- `writer::signs::size` meets its contract. Assumes nothing.
+use Prim.Native.Nat.{_-_}
+use mathlib.Core.Path.{sym, _∙_}
 use Rattle.writer.proofs.Signed.{minus-is, size-back, plus-casts, less-fits, less-casts, less-more, less-size}
 use Rattle.writer.proofs.signs.size.Statement.{statement}
 use Rattle.writer.proofs.signs.size.Tie as tie
-use Rattle.writer.proofs.signs.size.Reads as reads
-use Rattle.writer.proofs.signs.size.Lts as lts
 
 sub-result : tie.Need-sub-result
 sub-result c = less-fits (c .before .args .n) (c .before .fits .n) (sym (minus-is (c .before .args .n) (c .before .fits .n)) ∙ c .if1 .taken)

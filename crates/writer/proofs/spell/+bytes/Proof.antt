@@ -1,16 +1,15 @@
-use mathlib.Core.Path.{_≡_, refl, ap, sym, _∙_}
+-- The proof of the cycle of calls {`writer::spell::bytes`}: each call has one byte less. Assumes nothing.
+use Prim.Native.Nat.{ℕ, _<_, _-_, _/_}
 use native.Mathlib.Omega.{arith}
 use borrow.Author.Needs.{needs}
-use lib.ListN.{length, take, drop, getD}
-use Prim.Native.Nat.{ℕ, _<_, _≤_, _-_, _/_}
 use borrow.Fn.Kinds.{In}
 use borrow.Fn.PlainCycle.{Measures, is, falls, and}
 use Rattle.texts.proofs.Adding.{then}
+use Rattle.texts.proofs.byte.Reads as byte-reads
 use Rattle.writer.proofs.Spelling.{bytes-one, bytes-more, small-one, small-more, bytes-long}
 use Rattle.writer.proofs.spell.bytes.Reads as bytes
 use Rattle.writer.proofs.spell.bytes.Kinds as bytes-kinds
 use Rattle.writer.proofs.spell.+bytes.Lts-bytes as bytes-lts
-use Rattle.texts.proofs.byte.Reads as byte-reads
 use Rattle.writer.proofs.spell.+bytes.{statement}
 use Rattle.writer.proofs.spell.+bytes.Tie.{close}
 

@@ -1,15 +1,11 @@
-use Prim.Native.Nat.{ℕ, _+_, _-_, _*_, _≤_, _<_}
-use mathlib.Core.Path.{_≡_, refl, ap, sym, _∙_}
+-- `writer::spell::clock` meets its contract. Assumes nothing.
+use Prim.Native.Nat.{ℕ, _-_}
 use native.Mathlib.Omega.{arith}
-use lib.ListN.{length, take, drop, getD, length-replicate}
+use lib.ListN.{length-replicate}
 use borrow.Author.Needs.{needs}
 use Rattle.writer.proofs.Spelling.{clock-long, clock-short}
 use Rattle.writer.proofs.spell.clock.Statement.{statement}
 use Rattle.writer.proofs.spell.clock.Tie as tie
-use Rattle.writer.proofs.spell.clock.Reads as reads
-use Rattle.writer.proofs.spell.clock.Lts as lts
-use Rattle.texts.proofs.fill.Reads as fill-reads
-use Rattle.writer.proofs.spell.whole.Reads as whole-reads
 
 whole-requires : tie.Need-whole-requires
 whole-requires c κs = search needs

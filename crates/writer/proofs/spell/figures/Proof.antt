@@ -1,21 +1,13 @@
-use Prim.Native.Nat.{ℕ, _+_, _-_, _*_, _≤_, _<_}
-use mathlib.Core.Path.{_≡_, refl, ap, sym, _∙_}
-use native.Mathlib.Omega.{arith}
-use lib.ListN.{length, take, drop, getD}
+-- `writer::spell::figures` meets its contract. Assumes nothing.
+use Prim.Native.Nat.{_-_}
+use mathlib.Core.Path.{ap}
 use borrow.Author.Needs.{needs}
-use Rattle.writer.proofs.Spelling.{started, told, by-kind, coordinate-is}
-use Rattle.writer.proofs.Signed.{sign-is}
 use Rattle.rules.specs.Figures.{decimalOf}
 use Rattle.rules.specs.Spelled.{padded, withPoint, waterFigures, spelledAs}
+use Rattle.writer.proofs.Spelling.{started, told, by-kind, coordinate-is}
+use Rattle.writer.proofs.Signed.{sign-is}
 use Rattle.writer.proofs.spell.figures.Statement.{statement}
 use Rattle.writer.proofs.spell.figures.Tie as tie
-use Rattle.writer.proofs.spell.figures.Reads as reads
-use Rattle.writer.proofs.spell.figures.Lts as lts
-use Rattle.writer.proofs.spell.clock.Reads as clock-reads
-use Rattle.writer.proofs.spell.coordinate.Reads as coordinate-reads
-use Rattle.writer.proofs.spell.tenths.Reads as tenths-reads
-use Rattle.writer.proofs.spell.water.Reads as water-reads
-use Rattle.writer.proofs.spell.whole.Reads as whole-reads
 
 enum-told : tie.Need-enum-told
 enum-told c = search needs

@@ -1,15 +1,11 @@
-use Prim.Native.Nat.{ℕ, _+_, _-_, _*_, _≤_, _<_}
-use mathlib.Core.Path.{_≡_, refl, ap, sym, _∙_}
+-- `writer::spell::letters` meets its contract. Assumes nothing.
+use Prim.Native.Nat.{_-_}
 use native.Mathlib.Omega.{arith}
-use lib.ListN.{length, take, drop, getD}
 use borrow.Author.Needs.{needs}
-use Rattle.writer.proofs.Spelling.{text-short, text-long, bytes-long}
 use Rattle.texts.proofs.Adding.{then}
+use Rattle.writer.proofs.Spelling.{text-short, text-long, bytes-long}
 use Rattle.writer.proofs.spell.letters.Statement.{statement}
 use Rattle.writer.proofs.spell.letters.Tie as tie
-use Rattle.writer.proofs.spell.letters.Reads as reads
-use Rattle.writer.proofs.spell.letters.Lts as lts
-use Rattle.writer.proofs.spell.bytes.Reads as bytes-reads
 
 bytes-requires : tie.Need-bytes-requires
 bytes-requires c κs =

@@ -1,14 +1,10 @@
-use Prim.Native.Nat.{ℕ, _+_, _-_, _*_, _≤_, _<_}
-use mathlib.Core.Path.{_≡_, refl, ap, sym, _∙_}
+-- `writer::spell::sign` meets its contract. Assumes nothing.
+use Prim.Native.Nat.{_-_}
 use native.Mathlib.Omega.{arith}
-use lib.ListN.{length, take, drop, getD}
 use borrow.Author.Needs.{needs}
 use Rattle.writer.proofs.Spelling.{adds-nothing}
 use Rattle.writer.proofs.spell.sign.Statement.{statement}
 use Rattle.writer.proofs.spell.sign.Tie as tie
-use Rattle.writer.proofs.spell.sign.Reads as reads
-use Rattle.writer.proofs.spell.sign.Lts as lts
-use Rattle.texts.proofs.byte.Reads as byte-reads
 
 byte-requires : tie.Need-byte-requires
 byte-requires c κs = search needs

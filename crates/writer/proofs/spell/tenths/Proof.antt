@@ -1,18 +1,12 @@
-use Prim.Native.Nat.{ℕ, _+_, _-_, _*_, _≤_, _<_, _/_}
-use mathlib.Core.Path.{_≡_, refl, ap, sym, _∙_}
+-- `writer::spell::tenths` meets its contract. Assumes nothing.
+use Prim.Native.Nat.{_-_, _/_}
 use native.Mathlib.Omega.{arith}
-use lib.ListN.{length, take, drop, getD}
 use borrow.Author.Needs.{needs}
-use Rattle.texts.proofs.Adding.{then}
 use Rattle.rules.proofs.Figures.{twenty}
 use Rattle.rules.specs.Spelled.{withPoint}
+use Rattle.texts.proofs.Adding.{then}
 use Rattle.writer.proofs.spell.tenths.Statement.{statement}
 use Rattle.writer.proofs.spell.tenths.Tie as tie
-use Rattle.writer.proofs.spell.tenths.Reads as reads
-use Rattle.writer.proofs.spell.tenths.Lts as lts
-use Rattle.texts.proofs.add.Reads as add-reads
-use Rattle.texts.proofs.digits.Reads as digits-reads
-use Rattle.writer.proofs.spell.sign.Reads as sign-reads
 
 sign-requires : tie.Need-sign-requires
 sign-requires c κs = search needs

@@ -1,16 +1,11 @@
-use Prim.Native.Nat.{ℕ, _+_, _-_, _*_, _≤_, _<_}
-use mathlib.Core.Path.{_≡_, refl, ap, sym, _∙_}
+-- `writer::spell::whole` meets its contract. Assumes nothing.
+use Prim.Native.Nat.{_-_}
 use native.Mathlib.Omega.{arith}
-use lib.ListN.{length, take, drop, getD}
 use borrow.Author.Needs.{needs}
-use Rattle.texts.proofs.Adding.{then}
 use Rattle.rules.proofs.Figures.{twenty}
+use Rattle.texts.proofs.Adding.{then}
 use Rattle.writer.proofs.spell.whole.Statement.{statement}
 use Rattle.writer.proofs.spell.whole.Tie as tie
-use Rattle.writer.proofs.spell.whole.Reads as reads
-use Rattle.writer.proofs.spell.whole.Lts as lts
-use Rattle.texts.proofs.digits.Reads as digits-reads
-use Rattle.writer.proofs.spell.sign.Reads as sign-reads
 
 sign-requires : tie.Need-sign-requires
 sign-requires c κs = search needs

@@ -1,15 +1,12 @@
-use Prim.Native.Nat.{ℕ, _+_, _-_, _*_, _≤_, _<_}
-use mathlib.Core.Path.{_≡_, refl, ap, sym, _∙_}
+-- `writer::values::count` meets its contract. Assumes nothing.
+use Prim.Native.Nat.{_-_}
 use native.Mathlib.Omega.{arith}
-use lib.ListN.{length, take, drop, getD}
-use borrow.Author.Needs.{needs}
+use mathlib.Core.Path.{ap}
 use mir.Syntax.{w64}
 use mir.ValLaws.{toZ-pos}
 use Rattle.writer.specs.declared.values.Value.the-variants.{Number}
 use Rattle.writer.proofs.values.count.Statement.{statement}
 use Rattle.writer.proofs.values.count.Tie as tie
-use Rattle.writer.proofs.values.count.Reads as reads
-use Rattle.writer.proofs.values.count.Lts as lts
 
 cast-t2 : tie.Need-cast-t2
 cast-t2 c = record { sfits = omega arith }

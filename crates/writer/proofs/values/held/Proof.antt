@@ -1,17 +1,14 @@
-use Prim.Native.Nat.{ℕ, _+_, _-_, _*_, _≤_, _<_}
-use mathlib.Core.Path.{_≡_, refl, ap, sym, _∙_}
-use native.Mathlib.Omega.{arith}
-use lib.ListN.{length, take, drop, getD}
-use borrow.Author.Needs.{needs}
+-- `writer::values::held` meets its contract. Assumes nothing.
+use Prim.Native.Nat.{_-_}
+use mathlib.Core.Path.{ap, sym, _∙_}
 use mir.Syntax.{w64}
 use mir.ValLaws.{toZ-ofZ}
+use borrow.Author.Needs.{needs}
 use Rattle.rules.specs.Values.{heldValue, number}
 use Rattle.records.specs.declared.point.Held.{Held}
 use Rattle.writer.specs.Coded.{heldIn}
 use Rattle.writer.proofs.values.held.Statement.{statement}
 use Rattle.writer.proofs.values.held.Tie as tie
-use Rattle.writer.proofs.values.held.Reads as reads
-use Rattle.writer.proofs.values.held.Lts as lts
 
 enum-told : tie.Need-enum-told
 enum-told c = search needs
