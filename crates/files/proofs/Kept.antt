@@ -11,7 +11,7 @@ use lib.ListN.{length, take, drop, length-take, length-drop}
 use lib.Seq.{length-take-le, take-all, drop-at, drop-drop, drop-length, drop-append-add}
 use borrow.Author.Tests.{leb-true}
 use Rattle.rules.specs.Places.{pick}
-use Rattle.words.specs.Buffer.{over}
+use Rattle.texts.specs.Buffer.{over}
 use Rattle.files.specs.declared.input.Input.{Input}
 use Rattle.files.specs.declared.input.Input.the-variants.{Missing, Longer, Bytes}
 use Rattle.files.specs.declared.input.Step.{Step}

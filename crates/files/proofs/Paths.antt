@@ -7,7 +7,7 @@ use lib.ListN.{length, take, drop, replicate, length-replicate}
 use lib.Seq.{take-append-seam}
 use borrow.Author.Tests.{le-leb}
 use Rattle.rules.specs.Places.{pick}
-use Rattle.words.specs.Buffer.{over}
+use Rattle.texts.specs.Buffer.{over}
 use Rattle.files.specs.declared.input.Path.{Path}
 use Rattle.files.specs.Reads.{path}
 

@@ -12,7 +12,7 @@ use Rattle.rules.specs.Check.{cross}
 use Rattle.sets.specs.declared.Answer.{Answer}
 use Rattle.sets.specs.Paper.{paper}
 use Rattle.words.specs.Words.{line}
-use Rattle.words.specs.Buffer.{over}
+use Rattle.texts.specs.Buffer.{over}
 use Rattle.files.specs.Report.{_orElse_}
 
 pub record Says (f o o′ : List ℕ) (n : ℕ) : Type 0 where

@@ -14,7 +14,7 @@ use lib.Dec.{leb}
 use lib.IntN.{ℤ, pos, negsuc}
 use lib.ListN.{length, drop, replicate}
 use Rattle.rules.specs.Places.{pick}
-use Rattle.words.specs.Buffer.{over}
+use Rattle.texts.specs.Buffer.{over}
 use Rattle.files.specs.declared.input.Input.{Input}
 use Rattle.files.specs.declared.input.Input.the-variants.{Missing, Longer, Bytes}
 use Rattle.files.specs.declared.input.Step.{Step}

@@ -3,7 +3,7 @@
 ghost use mathlib.Core.Path.{_≡_};
 ghost use Prim.Native.Nat.{_≤_};
 ghost use lib.ListN.{length, take};
-ghost use Rattle.words.specs.Buffer.{over};
+ghost use Rattle.texts.specs.Buffer.{over};
 ghost use Rattle.files.specs.Reads.{sizeOf, restOf, next as nextOf, came as cameOf, Follows, path as pathOf, Found};
 use crate::first;
 use libc::PATH_MAX;

@@ -7,7 +7,7 @@ ghost use lib.ListN.{length, take};
 ghost use Rattle.rules.specs.Disc.{file};
 ghost use Rattle.rules.specs.Check.{cross as crossOf};
 ghost use Rattle.sets.specs.Paper.{paper};
-ghost use Rattle.words.specs.Buffer.{over};
+ghost use Rattle.texts.specs.Buffer.{over};
 ghost use Rattle.files.specs.Reads.{Found};
 ghost use Rattle.files.specs.Report.{part as partOf, fault as faultOf, report as reportOf, told};
 use lines::Verdict;

@@ -1,4 +1,2 @@
-pub mod Adding
-pub mod Digits
 pub mod Shown
 pub mod One

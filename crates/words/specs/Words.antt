@@ -9,7 +9,7 @@ use Rattle.rules.specs.Text.{bytes}
 use Rattle.rules.specs.Lines.{letter}
 use Rattle.rules.specs.Plan.{№}
 use Rattle.rules.specs.Check.{Answer, accepted, refusal, trace, channel, highest, headerLine, noTrace, formed}
-use Rattle.words.specs.Digits.{decimal}
+use Rattle.rules.specs.Figures.{decimalOf}
 
 unfoldable pub values : List (List ℕ) → List ℕ
 values [] = 10 ∷ []
@@ -19,8 +19,8 @@ unfoldable pub row : List ℕ → List (List ℕ) → List ℕ
 row w vs = w ++ values vs
 
 unfoldable pub line : Answer → List ℕ
-line (accepted r s x t d) = row (bytes "ACCEPTED") (decimal r ∷ decimal s ∷ decimal x ∷ decimal t ∷ decimal d ∷ [])
-line (refusal (№ n f l c)) = row (bytes "REFUSED") (decimal n ∷ (letter f ∷ []) ∷ decimal l ∷ decimal c ∷ [])
+line (accepted r s x t d) = row (bytes "ACCEPTED") (decimalOf r ∷ decimalOf s ∷ decimalOf x ∷ decimalOf t ∷ decimalOf d ∷ [])
+line (refusal (№ n f l c)) = row (bytes "REFUSED") (decimalOf n ∷ (letter f ∷ []) ∷ decimalOf l ∷ decimalOf c ∷ [])
 line (trace l m d) = []
 line (channel c) = []
 line (highest c) = []

@@ -7,12 +7,10 @@ ghost use lib.ListN.{length};
 ghost use Rattle.rules.specs.Text.{bytes};
 ghost use Rattle.rules.specs.Lines.{letter as letterOf};
 ghost use Rattle.sets.specs.Paper.{paper};
-ghost use Rattle.words.specs.Digits.{decimal};
+ghost use Rattle.rules.specs.Figures.{decimalOf};
 ghost use Rattle.words.specs.Words.{row as rowOf, line as lineOf, noFile, tooLong};
-ghost use Rattle.words.specs.Buffer.{over, Adds};
+ghost use Rattle.texts.specs.Buffer.{over, Adds};
 use sets::Answer;
-
-mod text;
 
 // Puts a part into the first places of out, where it has room.
 pub fn place(p: &[u8], out: &mut [u8])
@@ -21,37 +19,37 @@ pub fn place(p: &[u8], out: &mut [u8])
     if out.len() < p.len() {
         return;
     }
-    text::add(p, out, 0);
+    texts::add(p, out, 0);
 }
 
 // The line of an accepted set.
 fn accepted(r: u64, s: u64, x: u64, t: u64, d: u64, line: &mut [u8; 120]) -> usize
     ensures added { λ n. ⌜ Adds (now (line .entry)) 0
-        (rowOf (bytes "ACCEPTED") (decimal r ∷ decimal s ∷ decimal x ∷ decimal t ∷ decimal d ∷ [])) (now (line .exit)) n ⌝ }
+        (rowOf (bytes "ACCEPTED") (decimalOf r ∷ decimalOf s ∷ decimalOf x ∷ decimalOf t ∷ decimalOf d ∷ [])) (now (line .exit)) n ⌝ }
     ensures small { λ n. ⌜ n ≤ 114 ⌝ }
 {
-    let a = text::add(b"ACCEPTED", line, 0);
-    let b = text::number(r, line, a);
-    let c = text::number(s, line, b);
-    let e = text::number(x, line, c);
-    let f = text::number(t, line, e);
-    let g = text::number(d, line, f);
-    text::byte(b'\n', line, g)
+    let a = texts::add(b"ACCEPTED", line, 0);
+    let b = texts::number(r, line, a);
+    let c = texts::number(s, line, b);
+    let e = texts::number(x, line, c);
+    let f = texts::number(t, line, e);
+    let g = texts::number(d, line, f);
+    texts::byte(b'\n', line, g)
 }
 
 // The line of a refused set.
 fn refused(n: u8, f: u8, l: u32, c: u8, line: &mut [u8; 120]) -> usize
     ensures added { λ m. ⌜ Adds (now (line .entry)) 0
-        (rowOf (bytes "REFUSED") (decimal n ∷ (letterOf f ∷ []) ∷ decimal l ∷ decimal c ∷ [])) (now (line .exit)) m ⌝ }
+        (rowOf (bytes "REFUSED") (decimalOf n ∷ (letterOf f ∷ []) ∷ decimalOf l ∷ decimalOf c ∷ [])) (now (line .exit)) m ⌝ }
     ensures small { λ m. ⌜ m ≤ 114 ⌝ }
 {
-    let a = text::add(b"REFUSED", line, 0);
-    let b = text::number(n as u64, line, a);
+    let a = texts::add(b"REFUSED", line, 0);
+    let b = texts::number(n as u64, line, a);
     let file = [b' ', lines::letter(f)];
-    let d = text::add(&file, line, b);
-    let e = text::number(l as u64, line, d);
-    let g = text::number(c as u64, line, e);
-    text::byte(b'\n', line, g)
+    let d = texts::add(&file, line, b);
+    let e = texts::number(l as u64, line, d);
+    let g = texts::number(c as u64, line, e);
+    texts::byte(b'\n', line, g)
 }
 
 // The line of an answer to the cross-check.
@@ -84,9 +82,9 @@ fn of_file(word: &[u8], i: u8, out: &mut [u8]) -> usize
     ensures written { λ _. ⌜ now (out .exit) ≡ over (now (word .entry) ++ (letterOf i ∷ 10 ∷ [])) (now (out .entry)) ⌝ }
 {
     let mut line = [0u8; 16];
-    let n = text::add(word, &mut line, 0);
+    let n = texts::add(word, &mut line, 0);
     let tail = [lines::letter(i), b'\n'];
-    let m = text::add(&tail, &mut line, n);
+    let m = texts::add(&tail, &mut line, n);
     place(&line[..m], out);
     m
 }

@@ -1,9 +1,7 @@
 // Whether the rule of a field allows a value.
 ghost use mathlib.Core.Path.{_≡_};
-ghost use mathlib.Core.Bool.{true, _&&_, not};
-ghost use mathlib.Core.List.{[], _∷_};
+ghost use mathlib.Core.Bool.{true};
 ghost use Prim.Native.Nat.{ℕ, _≤_};
-ghost use lib.Dec.{eqb};
 ghost use lib.IntN.{ℤ};
 ghost use Rattle.rules.specs.Text.{col};
 ghost use Rattle.rules.specs.Disc.{printable as isPrintable};

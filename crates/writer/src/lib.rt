@@ -1,8 +1,7 @@
 // A point or a relation as the 82 bytes of a line of the disc form, at the start of a lent slice. The line is made in an array of the
 // call, field by field of the table that reading goes by, and put over last: a refusal writes nothing.
 ghost use mathlib.Core.Path.{_≡_};
-ghost use mathlib.Core.Bool.{true, _&&_};
-ghost use lib.Dec.{leb};
+ghost use mathlib.Core.Bool.{true};
 ghost use lib.ListN.{length};
 ghost use Rattle.rules.specs.Plan.{run};
 ghost use Rattle.rules.specs.Lines.{kindOf};
@@ -54,7 +53,7 @@ fn counted(q: Reach) -> bool
     }
 }
 
-// The line of a point of file i, where its values go into it.
+// The line of a point, where its letter is R or S, its state that of its code, and its values go into the fields.
 fn point_line(letter: u64, p: Point, line: &mut [u8; 82]) -> bool
     ensures goes { λ ok. ⌜ ok ≡ pointWrites letter (pointOf p) ⌝ }
     ensures line { λ ok. ⌜ (ok ≡ true → now (line .exit) ≡ pointLine (kindOf letter) (pointOf p)) ⌝ }
@@ -78,7 +77,7 @@ fn point_line(letter: u64, p: Point, line: &mut [u8; 82]) -> bool
     )
 }
 
-// The line of a relation, where its values go into it and agree with 6.
+// The line of a relation, where its values go into the fields and keep 6.
 fn relation_line(q: Relation, line: &mut [u8; 82]) -> bool
     ensures goes { λ ok. ⌜ ok ≡ relationWrites (relationOf q) ⌝ }
     ensures line { λ ok. ⌜ (ok ≡ true → now (line .exit) ≡ relationLine (relationOf q)) ⌝ }

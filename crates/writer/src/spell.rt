@@ -2,11 +2,10 @@
 ghost use mathlib.Core.Path.{_≡_};
 ghost use mathlib.Core.Bool.{true};
 ghost use mathlib.Core.List.{_++_};
-ghost use Prim.Native.Nat.{ℕ, _+_, _^_, _≤_, _<_};
+ghost use Prim.Native.Nat.{_+_, _^_, _≤_, _<_};
 ghost use lib.IntN.{ℤ};
 ghost use lib.ListN.{length};
 ghost use Rattle.rules.specs.Figures.{decimalOf};
-ghost use Rattle.rules.specs.Places.{pick};
 ghost use Rattle.rules.specs.Spelled.{padded, withPoint, waterFigures, spelledAs, spelled, allows};
 ghost use Rattle.rules.specs.Writer.{widthOf};
 ghost use Rattle.fields.specs.Paper.{kind, sized};

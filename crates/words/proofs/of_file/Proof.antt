@@ -2,7 +2,7 @@
 use mathlib.Core.Path.{ap, sym, _∙_}
 use lib.ListN.{length}
 use borrow.Author.Needs.{needs}
-use Rattle.words.proofs.Adding.{then, starts}
+use Rattle.texts.proofs.Adding.{then, starts}
 use Rattle.words.proofs.of_file.Statement.{statement}
 use Rattle.words.proofs.of_file.Tie as tie
 

@@ -2,8 +2,8 @@
 use borrow.Author.Needs.{needs}
 use borrow.Author.Tests.{lt-leb}
 use Rattle.rules.specs.Places.{pick}
-use Rattle.words.specs.Buffer.{over}
-use Rattle.words.proofs.Adding.{over-is}
+use Rattle.texts.specs.Buffer.{over}
+use Rattle.texts.proofs.Adding.{over-is}
 use Rattle.words.proofs.place.Statement.{statement}
 use Rattle.words.proofs.place.Tie as tie
 

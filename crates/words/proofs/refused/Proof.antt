@@ -3,7 +3,7 @@ use native.Mathlib.Omega.{arith}
 use borrow.Author.Needs.{needs}
 use Rattle.rules.specs.Text.{bytes}
 use Rattle.words.specs.Words.{row, values}
-use Rattle.words.proofs.Adding.{then}
+use Rattle.texts.proofs.Adding.{then}
 use Rattle.words.proofs.refused.Statement.{statement}
 use Rattle.words.proofs.refused.Tie as tie
 

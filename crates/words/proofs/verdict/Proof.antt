@@ -2,7 +2,7 @@
 use mathlib.Core.Path.{ap, sym, _∙_}
 use lib.ListN.{length}
 use borrow.Author.Needs.{needs}
-use Rattle.words.proofs.Adding.{starts, starts-within}
+use Rattle.texts.proofs.Adding.{starts, starts-within}
 use Rattle.words.proofs.verdict.Statement.{statement}
 use Rattle.words.proofs.verdict.Tie as tie
 

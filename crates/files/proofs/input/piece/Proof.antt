@@ -6,7 +6,7 @@ use lib.ListN.{length, take}
 use lib.Seq.{length-take-le}
 use mir.Syntax.{w64}
 use mir.ValLaws.{toZ-ofZ}
-use Rattle.words.specs.Buffer.{over}
+use Rattle.texts.specs.Buffer.{over}
 use Rattle.files.proofs.Answers.{came-read}
 use borrow.Author.Needs.{needs}
 use Rattle.files.proofs.input.piece.Statement.{statement}
