@@ -13,7 +13,8 @@ use Rattle.rules.specs.Layout.{Layout, at}
 use Rattle.rules.specs.Sheet.{Sheet}
 use Rattle.rules.specs.Lines.{isData, heads}
 use Rattle.rules.specs.Text.{same}
-use Rattle.rules.specs.Codes.{Tables, row, many, threeDigits, isInstrument, tablesOf, opens, names, named, namedBefore, rule24, usedCode, codeSpan, rule25}
+use Rattle.rules.specs.Codes.{Tables, row, many, threeDigits, isInstrument, tablesOf, opens, names, named, namedBefore}
+use Rattle.rules.specs.Codes.{rule24, usedCode, codeSpan, rule25}
 use Rattle.rules.specs.MeetsForm.{Data}
 use Rattle.rules.specs.MeetsHeaders.{InHeader}
 use Rattle.rules.specs.MeetsCodes.{CodeOf, Opens, FirstRecord, NamesCode, Rule24, Breach24, Named, Uses, Rule25, Breach25}

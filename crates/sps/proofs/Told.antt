@@ -11,7 +11,8 @@ use Rattle.rules.specs.Plan.{№, Verdict as PaperVerdict, fine, refused, _befo
 use Rattle.rules.specs.Sheet.{Sheet}
 use Rattle.rules.specs.Codes.{lineNaming}
 use Rattle.rules.specs.OneFile.{oneFile, fileForm}
-use Rattle.rules.specs.Check.{Answer, accepted, refusal, highest, headerLine, formed, rules, verdict, answer, points, relations, allTraces, deadTraces, trace, cross}
+use Rattle.rules.specs.Check.{Answer, accepted, refusal, highest, headerLine, formed, trace}
+use Rattle.rules.specs.Check.{rules, verdict, answer, points, relations, allTraces, deadTraces, cross}
 use Rattle.rules.specs.Questions.{rule20}
 use Rattle.rules.specs.Lines.{kindOf}
 use Rattle.rules.specs.Tables.{written, codeAsked, tableLine}
