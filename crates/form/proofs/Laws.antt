@@ -5,12 +5,13 @@ use native.Mathlib.Omega.{arith}
 use mathlib.Core.Path.{_≡_, refl, sym, ap, ap₂, _∙_}
 use mathlib.Core.Bool.{Bool, true, false, not, _&&_, and-false}
 use mathlib.Core.List.{List}
+use lib.Dec.{eqb}
 use lib.ListN.{getD}
 use borrow.Author.Tests.{eq-eqb, ne-eqb, leb-true}
 use Rattle.rules.specs.Places.{pick, every}
-use Rattle.rules.specs.Plan.{Verdict as PaperVerdict, fine, refused, №, _orElse_, Plan, _before_, run}
+use Rattle.rules.specs.Plan.{Verdict as PaperVerdict, fine, refused, №, _orElse_, Plan, need, _before_, run}
 use Rattle.rules.specs.Text.{col}
-use Rattle.rules.specs.Layout.{Layout}
+use Rattle.rules.specs.Layout.{Layout, letterColumn}
 use Rattle.rules.specs.Sheet.{Sheet, mostLines, allLines}
 use Rattle.rules.specs.Lines.{letter, isHeader}
 use Rattle.rules.specs.Relations.{reach}
@@ -74,6 +75,17 @@ module _ (i k : ℕ) (h : Bool) (l : List ℕ) (t : Bool) (q : t ≡ isHeader l)
     unfolding letterFits pick col
     four-other z = need-broken _ _ (rw (← q, n) (ne-eqb _ _ (λ y. z (y ∙ sym p))))
 
+-- what stands before a line matters to a header line alone
+letter-by : (i k : ℕ) (l : List ℕ) (h g : Bool) → (isHeader l ≡ true → h ≡ g) → letterFits i k h l ≡ letterFits i k g l
+unfolding letterFits pick
+letter-by i k l h g = go (isHeader l)
+  where
+    go : (t : Bool) → (t ≡ true → h ≡ g)
+        → need (pick t h (eqb (col l letterColumn) (letter i))) (№ 4 i (k + 1) letterColumn)
+        ≡ need (pick t g (eqb (col l letterColumn) (letter i))) (№ 4 i (k + 1) letterColumn)
+    go true q = rw (q refl)
+    go false q = refl
+
 -- 6 of a line
 module _ (L : Layout) (i k : ℕ) (l : List ℕ) where
   pub six-other : (i ≡ 3 → ⊥) → fine ≡ run (numbersOf L i k l)
@@ -95,10 +107,13 @@ module _ (f : Sheet) (i k c : ℕ) (e : c ≡ stray f k) where
   unfolding lineFits rule3
   line-stray n = before-broken _ _ _ (rw (← e) (need-broken _ _ (ne-eqb c 0 n)))
 
-  module _ (z : c ≡ 0) (L : Layout) (y : f .layout ≡ L) (l : List ℕ) (r : l ≡ f .row k) (h : Bool) (q : h ≡ headersTo f k) where
+  module _ (z : c ≡ 0) (L : Layout) (y : f .layout ≡ L) (l : List ℕ) (r : l ≡ f .row k) (h : Bool)
+      (q : isHeader l ≡ true → h ≡ headersTo f k) where
     pub line-clean : (v : PaperVerdict) → v ≡ run (letterFits i k h l before fieldsOf L i k l) → v ≡ run (lineFits i f k)
     unfolding lineFits rule3 rule4 letterFits headersTo fieldsOf numbersOf
-    line-clean v p = rw (r, q, ← y) at p ∙ before-met _ _ (need-met _ _ (eq-eqb _ 0 (sym e ∙ z)))
+    line-clean v p =
+        let m = letter-by i k l h (headersTo f k) q in
+        rw (m, r, ← y) at p ∙ before-met _ _ (need-met _ _ (eq-eqb _ 0 (sym e ∙ z)))
 
 -- the lines before the next are header lines
 pub headers-next : (f : Sheet) (k : ℕ) (h : Bool) → h ≡ headersTo f k → (l : List ℕ) → l ≡ f .row k → (t : Bool) → t ≡ (h && isHeader l)

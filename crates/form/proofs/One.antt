@@ -7,6 +7,8 @@ use Rattle.lines.specs.declared.Verdict.the-variants.{Fine, Refused}
 use Rattle.form.specs.Paper.{answered}
 use Rattle.form.proofs.fields_fit as fields-fit
 use Rattle.form.proofs.fields_fit.Reads as fields-fit-reads
+use Rattle.form.proofs.data_fits as data-fits
+use Rattle.form.proofs.data_fits.Reads as data-fits-reads
 use Rattle.form.proofs.file_fits as file-fits
 use Rattle.form.proofs.file_fits.Reads as file-fits-reads
 use Rattle.form.proofs.form as form
@@ -14,6 +16,9 @@ use Rattle.form.proofs.form.Reads as form-reads
 
 pub fields-fit-one : One fields-fit.ended fields-fit-reads.Post
 fields-fit-one κs a v v′ w w′ p p′ = (verdict-one v v′ (p ∙ sym p′), refl)
+
+pub data-fits-one : One data-fits.ended data-fits-reads.Post
+data-fits-one κs a v v′ w w′ p p′ = (verdict-one v v′ (p ∙ sym p′), refl)
 
 pub file-fits-one : One file-fits.ended file-fits-reads.Post
 file-fits-one κs a v v′ w w′ p p′ = (verdict-one v v′ (p ∙ sym p′), refl)

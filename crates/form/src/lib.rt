@@ -1,6 +1,6 @@
 // The form of one file: the first breach of 1 to 6, in the paper's order. 1, 2, on tape 29, then line by line 3 (whole line), 4, 5, 6.
 ghost use mathlib.Core.Path.{_≡_};
-ghost use mathlib.Core.Bool.{_&&_};
+ghost use mathlib.Core.Bool.{true, false, _&&_};
 ghost use Prim.Native.Nat.{ℕ, _+_, _≤_, _<_};
 ghost use Rattle.rules.specs.Plan.{run, upTo};
 ghost use Rattle.rules.specs.Layout.{sps93};
@@ -58,10 +58,10 @@ pub fn fields_fit(l: &[u8; 80], i: u8, k: usize) -> Verdict
     numbers_fit(l, i, k)
 }
 
-// 3 of line k, then 4, then 5 and 6; l is that line, and the lines before it are all header lines where `headers` says so.
+// 3 of line k, then 4, then 5 and 6; l is that line. Where it is a header line, the lines before it are all header lines if `headers` says so.
 fn line_fits(how: Reading, f: &[u8], l: &[u8; 80], i: u8, k: usize, headers: bool) -> Verdict
-    requires { ⌜ (k < sheetOf how (now f) .count) × (sheetOf how (now f) .count ≤ mostLines) ⌝ }
-    requires { ⌜ (now l ≡ sheetOf how (now f) .row k) × (headers ≡ headersTo (sheetOf how (now f)) k) ⌝ }
+    requires { ⌜ (k < sheetOf how (now f) .count) × (k < mostLines) ⌝ }
+    requires { ⌜ (now l ≡ sheetOf how (now f) .row k) × (isHeader (now l) ≡ true → headers ≡ headersTo (sheetOf how (now f)) k) ⌝ }
     ensures verdict { λ v. ⌜ paper v ≡ run (lineFits i (sheetOf how (now (f .entry))) k) ⌝ }
 {
     let c = lines::stray(how, f, k);
@@ -73,6 +73,15 @@ fn line_fits(how: Reading, f: &[u8], l: &[u8; 80], i: u8, k: usize, headers: boo
         return v;
     }
     fields_fit(l, i, k)
+}
+
+// 3 to 6 of line k, which is l and no header line, whatever stands before it.
+pub fn data_fits(how: Reading, f: &[u8], l: &[u8; 80], i: u8, k: usize) -> Verdict
+    requires { ⌜ (k < sheetOf how (now f) .count) × (k < mostLines) ⌝ }
+    requires { ⌜ (now l ≡ sheetOf how (now f) .row k) × (isHeader (now l) ≡ false) ⌝ }
+    ensures verdict { λ v. ⌜ paper v ≡ run (lineFits i (sheetOf how (now (f .entry))) k) ⌝ }
+{
+    line_fits(how, f, l, i, k, false)
 }
 
 // Whether the lines up to line l are all header lines, where `headers` says it of those before it.

@@ -32,7 +32,8 @@ line-of-requires c κs = let n = c .before .before .line-count .ensures in omega
 line-fits-requires : tie.Need-line-fits-requires Inv-loop μ-loop
 line-fits-requires c κs =
     let n = c .before .before .before .before .line-count .ensures in
-    ((omega arith, c .before .before .before .before .before .before .pre), (c .before .line-of .ensures, c .before .before .before .loop .inv .1 .0))
+    let few = c .before .before .before .before .before .before .pre in
+    ((omega arith, omega arith), (c .before .line-of .ensures, λ _. c .before .before .before .loop .inv .1 .0))
 
 enum-told : tie.Need-enum-told Inv-loop μ-loop
 enum-told c = search needs
