@@ -19,6 +19,10 @@ use Rattle.writer.proofs.write_point as write-point
 use Rattle.writer.proofs.write_point.Reads as write-point-reads
 use Rattle.writer.proofs.write_relation as write-relation
 use Rattle.writer.proofs.write_relation.Reads as write-relation-reads
+use Rattle.writer.proofs.write_point_numbers as write-point-numbers
+use Rattle.writer.proofs.write_point_numbers.Reads as write-point-numbers-reads
+use Rattle.writer.proofs.write_relation_numbers as write-relation-numbers
+use Rattle.writer.proofs.write_relation_numbers.Reads as write-relation-numbers-reads
 
 pub is-minus-one : One is-minus.ended is-minus-reads.Post
 is-minus-one κs a v v′ w w′ = alike
@@ -42,5 +46,15 @@ write-point-one κs a v v′ w w′ p p′ =
 
 pub write-relation-one : One write-relation.ended write-relation-reads.Post
 write-relation-one κs a v v′ w w′ p p′ =
+    let e = p .0 ∙ sym (p′ .0) in
+    (verdict-one v v′ e, both refl (both (same-bytes _ _ e (p .1) (p′ .1)) refl))
+
+pub write-point-numbers-one : One write-point-numbers.ended write-point-numbers-reads.Post
+write-point-numbers-one κs a v v′ w w′ p p′ =
+    let e = p .0 ∙ sym (p′ .0) in
+    (verdict-one v v′ e, both refl (both refl (both (same-bytes _ _ e (p .1) (p′ .1)) refl)))
+
+pub write-relation-numbers-one : One write-relation-numbers.ended write-relation-numbers-reads.Post
+write-relation-numbers-one κs a v v′ w w′ p p′ =
     let e = p .0 ∙ sym (p′ .0) in
     (verdict-one v v′ e, both refl (both (same-bytes _ _ e (p .1) (p′ .1)) refl))

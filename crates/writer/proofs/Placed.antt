@@ -17,7 +17,8 @@ use Rattle.records.specs.Coded.{rowOf}
 use Rattle.records.specs.declared.table.Row.{Row}
 use Rattle.texts.specs.Buffer.{Adds}
 use Rattle.texts.proofs.Adding.{then}
-use Rattle.writer.specs.Coded.{bytesOf, textOf, valueOf}
+use Rattle.rules.specs.Carried.{bytesOf}
+use Rattle.writer.specs.Coded.{textOf, valueOf}
 use Rattle.writer.specs.Texts.{Starts}
 use Rattle.writer.specs.declared.values.Value.{Value}
 use Rattle.writer.specs.declared.values.Value.the-variants.{Text, Number, Nothing}

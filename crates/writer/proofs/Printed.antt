@@ -14,7 +14,8 @@ use Rattle.rules.specs.Disc.{printable}
 use Rattle.rules.specs.Kinds.{startsNonBlank, isCode, family, digit1}
 use Rattle.rules.specs.Spelled.{allowsText}
 use Rattle.rules.proofs.Tests.{and-is, clash}
-use Rattle.writer.specs.Coded.{bytesOf, textOf}
+use Rattle.rules.specs.Carried.{bytesOf}
+use Rattle.writer.specs.Coded.{textOf}
 use Rattle.writer.specs.Texts.{allPrinted, Narrow}
 use Rattle.writer.proofs.Spelling.{bytes-one, bytes-more, bytes-long, text-short, text-long}
 

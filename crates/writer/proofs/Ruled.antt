@@ -16,7 +16,8 @@ use Rattle.fields.specs.declared.Kind.the-variants.{WholeNumber, SignedNumber, 
 use Rattle.fields.proofs.Widths.{sized-is, code-wide}
 use Rattle.records.specs.Coded.{orBlank, rowOf}
 use Rattle.records.specs.declared.table.Row.{Row}
-use Rattle.writer.specs.Coded.{bytesOf, textOf, valueOf}
+use Rattle.rules.specs.Carried.{bytesOf}
+use Rattle.writer.specs.Coded.{textOf, valueOf}
 use Rattle.writer.specs.Texts.{Starts, Narrow}
 use Rattle.writer.specs.declared.values.Value.{Value}
 use Rattle.writer.specs.declared.values.Value.the-variants.{Text, Number, Nothing}

@@ -17,7 +17,8 @@ use Rattle.fields.specs.Paper.{kind}
 use Rattle.fields.specs.declared.Kind.{Kind}
 use Rattle.texts.specs.Buffer.{Adds}
 use Rattle.texts.proofs.Adding.{then, starts}
-use Rattle.writer.specs.Coded.{bytesOf, textOf}
+use Rattle.rules.specs.Carried.{bytesOf}
+use Rattle.writer.specs.Coded.{textOf}
 use Rattle.writer.specs.Texts.{Signs, signOf, Starts, coordinateOf}
 use Rattle.writer.proofs.Signed.{sign-is}
 

@@ -18,7 +18,7 @@ use Rattle.rules.specs.Cover.{traces, receivers}
 use Rattle.rules.specs.Rows.{pointRows, relationRows}
 use Rattle.rules.specs.Form.{rule6}
 use Rattle.rules.specs.Values.{Value as PaperValue, pointValues, relationValues}
-use Rattle.rules.specs.Writer.{writable, lineOf, pointLine, relationLine, sameState, pointWrites, relationWrites, counted, writes, into}
+use Rattle.rules.specs.Writer.{writable, lineOf, pointGoes, pointLine, relationLine, sameState, pointWrites, relationWrites, counted, writes, into}
 use Rattle.rules.proofs.Tests.{agree, and-is}
 use Rattle.rules.proofs.Steps.{need-met, need-broken, before-met, before-broken}
 use Rattle.records.specs.declared.point.Point.{Point}
@@ -28,7 +28,8 @@ use Rattle.records.specs.declared.relation.Reach.{Reach}
 use Rattle.records.specs.declared.relation.Relation.{Relation}
 use Rattle.records.proofs.Reaches.{paperReach}
 use Rattle.texts.specs.Buffer.{Adds}
-use Rattle.writer.specs.Coded.{bytesOf, textOf, stateIn, pointOf, reachOf, relationOf}
+use Rattle.rules.specs.Carried.{bytesOf}
+use Rattle.writer.specs.Coded.{textOf, stateIn, pointOf, reachOf, relationOf}
 use Rattle.writer.proofs.Spelling.{text-short}
 
 pair-is : (a b c n : ℕ) → b < 256 → n ≡ 256 * a + b → (eqb (c / 256) a && (eqb (c % 256) b && true)) ≡ eqb c n
@@ -142,38 +143,42 @@ written false w e v n q l m f o p r =
     let z : v ≡ refused (№ 22 0 0 0) = q ∙ refuses n in
     (q ∙ ap (λ (t : Bool). run (writes t n)) e, r ∙ ap (λ (x : Verdict). into x l o) z ∙ ap (λ (x : Verdict). into x m o) (sym z))
 
--- a point
-module _ (b i : ℕ) (e : i ≡ kindOf b) (p : Point) where
-  abbrev state : Bool
-  state = sameState (stateOf (textOf 2 0 (p .code))) (stateIn (p .state))
+-- the values of a point, by the kind of its file
+module _ (b i : ℕ) (e : i ≡ kindOf b) (c : List ℕ) (s : PaperState) (xs : ℕ → List PaperValue) where
+  abbrev Goes : Bool
+  Goes = pointGoes b c s (xs (kindOf b))
 
-  abbrev fits : Bool
-  fits = writable (pointRows sps93 i) (pointValues (pointOf p))
+  whole : ((leb 1 i && leb i 2) && (sameState (stateOf c) s && writable (pointRows sps93 i) (xs i))) ≡ Goes
+  whole = ap (λ (k : ℕ). (leb 1 k && leb k 2) && (sameState (stateOf c) s && writable (pointRows sps93 k) (xs k))) e
 
-  whole : ((leb 1 i && leb i 2) && (state && fits)) ≡ pointWrites b (pointOf p)
-  unfolding pointWrites pointOf
-  whole =
-      ap (λ (k : ℕ). (leb 1 k && leb k 2) && (state && writable (pointRows sps93 k) (pointValues (pointOf p)))) e
-
-  pub point-low : i < 1 → false ≡ pointWrites b (pointOf p)
+  pub point-low : i < 1 → false ≡ Goes
   point-low h = (rw (lt-leb 1 i h)) ∙ whole
 
   module _ (o : 1 ≤ i) where
-    pub point-high : 2 < i → false ≡ pointWrites b (pointOf p)
+    pub point-high : 2 < i → false ≡ Goes
     point-high h = (rw (le-leb 1 i o, lt-leb i 2 h)) ∙ whole
 
-    module _ (h : i ≤ 2) (t : Bool) (q : t ≡ state) where
-      pub point-other : t ≡ false → false ≡ pointWrites b (pointOf p)
+    module _ (h : i ≤ 2) (t : Bool) (q : t ≡ sameState (stateOf c) s) where
+      pub point-other : t ≡ false → false ≡ Goes
       point-other f = (rw (le-leb 1 i o, le-leb i 2 h, ← q, f)) ∙ whole
 
-      module _ (y : t ≡ true) (xs : List PaperValue) (g : xs ≡ pointValues (pointOf p)) where
-        pub point-goes : (u : Bool) → u ≡ writable (pointRows sps93 i) xs → u ≡ pointWrites b (pointOf p)
-        point-goes u f = f ∙ ap (writable (pointRows sps93 i)) g ∙ (rw (le-leb 1 i o, le-leb i 2 h, ← q, y)) ∙ whole
+      pub point-goes : t ≡ true → (u : Bool) → u ≡ writable (pointRows sps93 i) (xs i) → u ≡ Goes
+      point-goes y u f = f ∙ (rw (le-leb 1 i o, le-leb i 2 h, ← q, y)) ∙ whole
 
-        pub point-line-is : (c : ℕ) → c ≡ letter i → (l : List ℕ) → l ≡ lineOf c (pointRows sps93 i) xs → l ≡ pointLine (kindOf b) (pointOf p)
-        point-line-is c k l f =
-            f ∙ ap₂ (λ (d : ℕ) (ys : List PaperValue). lineOf d (pointRows sps93 i) ys) k g
-            ∙ ap (λ (j : ℕ). pointLine j (pointOf p)) e
+pub point-line-is : (b i : ℕ) → i ≡ kindOf b → (xs : ℕ → List PaperValue) (d : ℕ) → d ≡ letter i → (l : List ℕ) → l ≡ lineOf d (pointRows sps93 i) (xs i)
+    → l ≡ lineOf (letter (kindOf b)) (pointRows sps93 (kindOf b)) (xs (kindOf b))
+point-line-is b i e xs d k l f =
+    f ∙ ap (λ (d : ℕ). lineOf d (pointRows sps93 i) (xs i)) k
+    ∙ ap (λ (j : ℕ). lineOf (letter j) (pointRows sps93 j) (xs j)) e
+
+-- those of a record
+module _ (b : ℕ) (p : Point) (xs : List PaperValue) (e : xs ≡ pointValues (pointOf p)) where
+  pub point-writes : pointGoes b (textOf 2 0 (p .code)) (stateIn (p .state)) xs ≡ pointWrites b (pointOf p)
+  unfolding pointWrites pointOf
+  point-writes = rw e
+
+  pub point-text : lineOf (letter (kindOf b)) (pointRows sps93 (kindOf b)) xs ≡ pointLine (kindOf b) (pointOf p)
+  point-text = rw e
 
 -- a relation
 module _ (q : Relation) (t : Bool) (e : t ≡ counted (reachOf (q .reach))) where

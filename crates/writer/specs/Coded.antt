@@ -1,10 +1,9 @@
 -- The code's values as the paper's.
---   bytesOf n v      = a number as n bytes, high byte first; the first holds all that is left of it
 --   textOf w hi lo   = w columns of text from two numbers, the last 8 of them from the second
 --   pointOf p, relationOf q = the paper's values of the code's
 --   valueOf w v      = the value of a field of w columns
 --   valuesOf ws vs   = those of the fields of a table
-use Prim.Native.Nat.{ℕ, zero, suc, _-_, _/_, _%_}
+use Prim.Native.Nat.{ℕ, _-_}
 use mathlib.Core.List.{List, [], _∷_, _++_}
 use lib.Dec.{leb}
 use Rattle.rules.specs.Places.{pick}
@@ -14,6 +13,7 @@ use Rattle.rules.specs.Relations.{Reach as PaperReach, Relation as PaperRelatio
 use Rattle.rules.specs.Rows.{Row}
 use Rattle.rules.specs.Values.{Value as PaperValue, text, number, nothing}
 use Rattle.rules.specs.Writer.{widthOf}
+use Rattle.rules.specs.Carried.{bytesOf}
 use Rattle.fields.specs.declared.Name.{Name}
 use Rattle.records.specs.declared.point.Held.{Held}
 use Rattle.records.specs.declared.point.Held.the-variants as held-cases
@@ -24,11 +24,6 @@ use Rattle.records.specs.declared.relation.Reach.{Reach}
 use Rattle.records.specs.declared.relation.Relation.{Relation}
 use Rattle.writer.specs.declared.values.Value.{Value}
 use Rattle.writer.specs.declared.values.Value.the-variants.{Text, Number, Nothing}
-
-unfoldable pub bytesOf : ℕ → ℕ → List ℕ
-bytesOf zero v = []
-bytesOf (suc zero) v = v ∷ []
-bytesOf (suc (suc n)) v = bytesOf (suc n) (v / 256) ++ (v % 256 ∷ [])
 
 unfoldable pub textOf : ℕ → ℕ → ℕ → List ℕ
 textOf w hi lo = pick (leb w 8) (bytesOf w lo) (bytesOf (w - 8) hi ++ bytesOf 8 lo)

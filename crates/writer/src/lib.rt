@@ -2,13 +2,17 @@
 // call, field by field of the table that reading goes by, and put over last: a refusal writes nothing.
 ghost use mathlib.Core.Path.{_≡_};
 ghost use mathlib.Core.Bool.{true};
-ghost use lib.ListN.{length};
+ghost use lib.ListN.{length, getD};
 ghost use Rattle.rules.specs.Plan.{run};
-ghost use Rattle.rules.specs.Lines.{kindOf};
+ghost use Rattle.rules.specs.Layout.{sps93};
+ghost use Rattle.rules.specs.Lines.{kindOf, letter as letterOf};
 ghost use Rattle.rules.specs.Points.{stateOf};
-ghost use Rattle.rules.specs.Writer.{sameState, pointWrites, relationWrites, pointLine, relationLine, writes, into, counted as countedOf};
+ghost use Rattle.rules.specs.Rows.{pointRows};
+ghost use Rattle.rules.specs.Writer.{sameState, pointGoes, pointWrites, relationWrites, lineOf, pointLine, relationLine, writes, into, counted as countedOf};
 ghost use Rattle.lines.specs.Paper.{paper};
-ghost use Rattle.writer.specs.Coded.{textOf, stateIn, pointOf, reachOf, relationOf};
+ghost use Rattle.writer.specs.Coded.{textOf, stateIn, pointOf, reachOf, relationOf, valuesOf};
+ghost use Rattle.writer.specs.Given.{pointTakes, pointText, relationTakes, relationText};
+use crate::values::Value;
 use lines::Verdict;
 use records::fits;
 use records::point::Point;
@@ -19,6 +23,7 @@ use records::table::Table;
 
 mod allowed;
 mod line;
+mod numbers;
 mod rows;
 mod signs;
 mod spell;
@@ -53,10 +58,11 @@ fn counted(q: Reach) -> bool
     }
 }
 
-// The line of a point, where its letter is R or S, its state that of its code, and its values go into the fields.
-fn point_line(letter: u64, p: Point, line: &mut [u8; 82]) -> bool
-    ensures goes { λ ok. ⌜ ok ≡ pointWrites letter (pointOf p) ⌝ }
-    ensures line { λ ok. ⌜ (ok ≡ true → now (line .exit) ≡ pointLine (kindOf letter) (pointOf p)) ⌝ }
+// The line of a point's values, where the letter is R or S, the state that of the code, and they go into the fields.
+fn values_line(letter: u64, code: u64, s: State, vs: [Value; 14], line: &mut [u8; 82]) -> bool
+    ensures goes { λ ok. ⌜ ok ≡ pointGoes letter (textOf 2 0 code) (stateIn s) (valuesOf (pointRows sps93 (kindOf letter)) vs) ⌝ }
+    ensures line { λ ok. ⌜ (ok ≡ true → now (line .exit)
+        ≡ lineOf (letterOf (kindOf letter)) (pointRows sps93 (kindOf letter)) (valuesOf (pointRows sps93 (kindOf letter)) vs)) ⌝ }
 {
     let i = lines::kind_of(letter);
     if i < 1 {
@@ -65,14 +71,31 @@ fn point_line(letter: u64, p: Point, line: &mut [u8; 82]) -> bool
     if 2 < i {
         return false;
     }
-    let s = p.state;
-    if !agrees(p.code, s) {
+    if !agrees(code, s) {
         return false;
     }
-    line::line_of(
-        lines::letter(i),
-        Table::Point(i),
-        values::point_values(p),
+    line::line_of(lines::letter(i), Table::Point(i), vs, line)
+}
+
+// The line of a point.
+fn point_line(letter: u64, p: Point, line: &mut [u8; 82]) -> bool
+    ensures goes { λ ok. ⌜ ok ≡ pointWrites letter (pointOf p) ⌝ }
+    ensures line { λ ok. ⌜ (ok ≡ true → now (line .exit) ≡ pointLine (kindOf letter) (pointOf p)) ⌝ }
+{
+    let s = p.state;
+    values_line(letter, p.code, s, values::point_values(p), line)
+}
+
+// The line of a point of sixteen numbers.
+fn point_numbers_line(letter: u64, v: [u64; 16], line: &mut [u8; 82]) -> bool
+    ensures goes { λ ok. ⌜ ok ≡ pointTakes letter (λ k. getD v k 0) ⌝ }
+    ensures line { λ ok. ⌜ (ok ≡ true → now (line .exit) ≡ pointText letter (λ k. getD v k 0)) ⌝ }
+{
+    values_line(
+        letter,
+        v[4],
+        numbers::state_of(v[5]),
+        numbers::point(v),
         line,
     )
 }
@@ -87,6 +110,17 @@ fn relation_line(q: Relation, line: &mut [u8; 82]) -> bool
         return false;
     }
     line::line_of(b'X', Table::Relation, values::relation_values(q), line)
+}
+
+// The line of a relation of sixteen numbers. Those that go into the fields have 32 bits.
+fn relation_numbers_line(v: [u64; 16], line: &mut [u8; 82]) -> bool
+    ensures goes { λ ok. ⌜ ok ≡ relationTakes (λ k. getD v k 0) ⌝ }
+    ensures line { λ ok. ⌜ (ok ≡ true → now (line .exit) ≡ relationText (λ k. getD v k 0)) ⌝ }
+{
+    if !line::line_of(b'X', Table::Relation, numbers::relation(v), line) {
+        return false;
+    }
+    counted(numbers::reach(v))
 }
 
 // 22, then 23, then the line at the start of out.
@@ -121,5 +155,25 @@ pub fn write_relation(q: Relation, out: &mut [u8]) -> Verdict
 {
     let mut line = [0u8; 82];
     let ok = relation_line(q, &mut line);
+    place(ok, &line, out)
+}
+
+// Writes a point of sixteen numbers, as a C host has them.
+pub fn write_point_numbers(letter: u64, v: [u64; 16], out: &mut [u8]) -> Verdict
+    ensures verdict { λ r. ⌜ paper r ≡ run (writes (pointTakes letter (λ k. getD v k 0)) (length (now (out .entry)))) ⌝ }
+    ensures written { λ r. ⌜ now (out .exit) ≡ into (paper r) (pointText letter (λ k. getD v k 0)) (now (out .entry)) ⌝ }
+{
+    let mut line = [0u8; 82];
+    let ok = point_numbers_line(letter, v, &mut line);
+    place(ok, &line, out)
+}
+
+// Writes a relation of sixteen numbers.
+pub fn write_relation_numbers(v: [u64; 16], out: &mut [u8]) -> Verdict
+    ensures verdict { λ r. ⌜ paper r ≡ run (writes (relationTakes (λ k. getD v k 0)) (length (now (out .entry)))) ⌝ }
+    ensures written { λ r. ⌜ now (out .exit) ≡ into (paper r) (relationText (λ k. getD v k 0)) (now (out .entry)) ⌝ }
+{
+    let mut line = [0u8; 82];
+    let ok = relation_numbers_line(v, &mut line);
     place(ok, &line, out)
 }

@@ -4,7 +4,7 @@ use native.Mathlib.Omega.{arith}
 use mathlib.Core.Path.{_≡_, refl}
 use borrow.Author.Needs.{needs}
 use Rattle.rules.specs.Text.{col}
-use Rattle.writer.specs.Coded.{bytesOf}
+use Rattle.rules.specs.Carried.{bytesOf}
 use Rattle.writer.proofs.Printed.{first-step, first-end}
 use Rattle.writer.proofs.allowed.first.Statement.{statement}
 use Rattle.writer.proofs.allowed.first.Tie as tie

@@ -4,7 +4,7 @@ use native.Mathlib.Omega.{arith}
 use mathlib.Core.Path.{_≡_, refl}
 use borrow.Author.Needs.{needs}
 use borrow.Author.Tests.{not-true, not-false}
-use Rattle.writer.specs.Coded.{bytesOf}
+use Rattle.rules.specs.Carried.{bytesOf}
 use Rattle.writer.specs.Texts.{allPrinted}
 use Rattle.writer.proofs.Printed.{printed-stop, printed-step, printed-end}
 use Rattle.writer.proofs.allowed.printed.Statement.{statement}
