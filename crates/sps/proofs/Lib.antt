@@ -1,6 +1,10 @@
 pub mod Placed
+pub mod Got
 pub mod Counts
 pub mod One
 pub mod Told
+pub mod Read
+pub mod Written
 pub mod Whole
 pub mod Demands
+pub mod LineDemands

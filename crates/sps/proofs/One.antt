@@ -2,11 +2,13 @@
 use Prim.Native.Nat.{ℕ}
 use mathlib.Core.Path.{_≡_, refl, sym, ap, _∙_}
 use mathlib.Core.List.{List}
+use Rattle.rules.specs.Plan.{Verdict}
 use Rattle.rules.specs.Medium.{Medium}
 use Rattle.rules.specs.Calls.{Choice, on, none, choice}
 use Rattle.rules.specs.Hosts.{hostNumber}
 use Rattle.traces.specs.Calls.{Table}
 use Rattle.sps.specs.Table.{SpreadTold}
+use Rattle.sps.specs.Values.{Told, PointTold, RelationTold}
 use Rattle.outcome.specs.One.{One, both}
 use Rattle.sets.proofs.One.{answer-one as set-one}
 use Rattle.sps.proofs.pack as pack
@@ -43,6 +45,14 @@ use Rattle.sps.proofs.line_number as line-number
 use Rattle.sps.proofs.line_number.Reads as line-number-reads
 use Rattle.sps.proofs.sps_table_line as sps-table-line
 use Rattle.sps.proofs.sps_table_line.Reads as sps-table-line-reads
+use Rattle.sps.proofs.line.sps_read_point as sps-read-point
+use Rattle.sps.proofs.line.sps_read_point.Reads as sps-read-point-reads
+use Rattle.sps.proofs.line.sps_read_relation as sps-read-relation
+use Rattle.sps.proofs.line.sps_read_relation.Reads as sps-read-relation-reads
+use Rattle.sps.proofs.line.sps_write_point as sps-write-point
+use Rattle.sps.proofs.line.sps_write_point.Reads as sps-write-point-reads
+use Rattle.sps.proofs.line.sps_write_relation as sps-write-relation
+use Rattle.sps.proofs.line.sps_write_relation.Reads as sps-write-relation-reads
 use Rattle.sps.proofs.sps_spread as sps-spread
 use Rattle.sps.proofs.sps_spread.Reads as sps-spread-reads
 
@@ -110,3 +120,33 @@ sps-spread-one κs a v v′ w w′ p p′ =
       t .0,
       both refl (both refl (both refl (both refl (both refl (both refl (both (t .1 .0) (both (t .1 .1) refl))))))),
     )
+
+-- the values of a line, by the medium that is chosen
+line-one : (v : Verdict) (n : ℕ) (ps o : List ℕ) (a a′ : ℕ) (e e′ : List ℕ) → Told v n ps o a e → Told v n ps o a′ e′ → (a ≡ a′) × (e ≡ e′)
+line-one v n ps o a a′ e e′ t t′ = (t .answer ∙ sym (t′ .answer), t .values ∙ sym (t′ .values))
+
+point-told-one : (d : Choice) (b : ℕ) (f : List ℕ) (l : ℕ) (o : List ℕ) (a a′ : ℕ) (e e′ : List ℕ) → PointTold d b f l o a e → PointTold d b f l o a′ e′
+    → (a ≡ a′) × (e ≡ e′)
+point-told-one (on M) b f l o a a′ e e′ t t′ = line-one _ _ _ _ a a′ e e′ t t′
+point-told-one none b f l o a a′ e e′ t t′ = line-one _ _ _ _ a a′ e e′ t t′
+
+relation-told-one : (d : Choice) (f : List ℕ) (l : ℕ) (o : List ℕ) (a a′ : ℕ) (e e′ : List ℕ) → RelationTold d f l o a e → RelationTold d f l o a′ e′
+    → (a ≡ a′) × (e ≡ e′)
+relation-told-one (on M) f l o a a′ e e′ t t′ = line-one _ _ _ _ a a′ e e′ t t′
+relation-told-one none f l o a a′ e e′ t t′ = line-one _ _ _ _ a a′ e e′ t t′
+
+pub sps-read-point-one : One sps-read-point.ended sps-read-point-reads.Post
+sps-read-point-one κs a v v′ w w′ p p′ =
+    let t = point-told-one (choice (a .0)) _ _ _ _ v v′ _ _ p p′ in
+    (t .0, both refl (both refl (both refl (both refl (both (t .1) refl)))))
+
+pub sps-read-relation-one : One sps-read-relation.ended sps-read-relation-reads.Post
+sps-read-relation-one κs a v v′ w w′ p p′ =
+    let t = relation-told-one (choice (a .0)) _ _ _ v v′ _ _ p p′ in
+    (t .0, both refl (both refl (both refl (both (t .1) refl))))
+
+pub sps-write-point-one : One sps-write-point.ended sps-write-point-reads.Post
+sps-write-point-one κs a v v′ w w′ p p′ = (p .0 ∙ sym (p′ .0), both refl (both refl (both (p .1 ∙ sym (p′ .1)) refl)))
+
+pub sps-write-relation-one : One sps-write-relation.ended sps-write-relation-reads.Post
+sps-write-relation-one κs a v v′ w w′ p p′ = (p .0 ∙ sym (p′ .0), both refl (both (p .1 ∙ sym (p′ .1)) refl))

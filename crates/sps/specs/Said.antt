@@ -9,10 +9,13 @@
 --   TellsSpread n a      = n is the number of an answer of the spread table
 --   TellsLine n a        = n is the number of an answer on the code tables
 --   valueOf bs, readAt i o = the number of some bytes, low byte first; of place i, of eight bytes
+--   TellsWritten n ok m  = n is the number of a line that is written, of values that go into it or not, into a slice of m bytes
+--   LineTold n l o e     = what stands in that slice, o before and e after the call that answers n, of the line l
 --   CountsTold v o e     = what stands in the slice of counts, o before and e after the call that answers v
 use Prim.Native.Nat.{ℕ, _+_, _*_, _/_, _%_, _^_, _≤_, _<_}
 use mathlib.Core.Path.{_≡_}
-use mathlib.Core.List.{List, [], _∷_}
+use mathlib.Core.Bool.{Bool, true, false}
+use mathlib.Core.List.{List, [], _∷_, _++_}
 use lib.ListN.{length, getD, take, drop}
 use Rattle.rules.specs.Places.{pick}
 use Rattle.lines.specs.declared.Verdict.{Verdict}
@@ -73,3 +76,14 @@ pub record CountsTold (v : SetAnswer) (o e : List ℕ) : Type 0 where
   -- "bytes at its end too few for a number are no place and stay", and so does all after the fifth
   pub others : (i : ℕ) → (i < 5 → length o < 8 * i + 8) → drop (8 * i) e ≡ drop (8 * i) o
   pub unwritten : (i f l c : ℕ) → v ≡ SetRefused i f l c → e ≡ o
+
+pub record TellsWritten (n : ℕ) (ok : Bool) (m : ℕ) : Type 0 where
+  pub done : ok ≡ true → 82 ≤ m → n ≡ 0
+  -- "22: a value that its columns can't hold or its rule forbids. Then 23: a slice shorter than 82 bytes. File, line and column are 0."
+  pub forbidden : ok ≡ false → RefusedAs n 22 0 0 0
+  pub short : ok ≡ true → m < 82 → RefusedAs n 23 0 0 0
+
+-- "write its 82 bytes at the start of a lent slice; later bytes stay"; "a refusal writes nothing"
+pub record LineTold (n : ℕ) (l o e : List ℕ) : Type 0 where
+  pub written : n ≡ 0 → e ≡ l ++ drop (length l) o
+  pub unwritten : (n ≡ 0 → ⊥) → e ≡ o

@@ -1,5 +1,5 @@
 // The calls for C hosts, which `include/sps.h` declares: the form of one file, the cross-check of three, both lookups, the spread table and the
-// line that names a code, on numbers and byte slices.
+// line that names a code, on numbers and byte slices; in `line` the values of one line, read and written.
 // Each carries the answer of the proved call over as one 64-bit number: a refusal from 2^40 on, any other answer below. The number of the
 // medium comes first, and is looked at before all else.
 ghost use mathlib.Core.Path.{_≡_};
@@ -25,6 +25,7 @@ use traces::Answer;
 use traces::Question;
 use traces::Spread;
 
+mod line;
 mod places;
 
 // A refusal as one number.
