@@ -4,7 +4,7 @@ use small_sets::Random;
 use std::ops::RangeInclusive;
 
 /// A number of a range: its ends, 0 and small ones more often.
-fn value(random: &mut Random, range: &RangeInclusive<i64>) -> i64 {
+pub fn value(random: &mut Random, range: &RangeInclusive<i64>) -> i64 {
     let (low, high) = (*range.start(), *range.end());
     match random.below(8) {
         0 => low,

@@ -4,7 +4,8 @@
 //! stands in one line, `damage` changes it. `sound` makes whole sets, `media` those of
 //! which a tape can be made, `spellings` writes their decimals with points or without,
 //! `backwards` lays their spreads out backwards, `faults` changes them; `large` has those of
-//! full size. `questions` asks for traces and codes.
+//! full size. `questions` asks for traces and codes. `values` makes what lines are written from,
+//! and `written` spells a line as it is written.
 
 #![forbid(unsafe_code)]
 
@@ -19,3 +20,5 @@ pub mod questions;
 pub mod run;
 pub mod sound;
 pub mod spellings;
+pub mod values;
+pub mod written;

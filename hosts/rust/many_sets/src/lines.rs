@@ -114,13 +114,7 @@ pub fn time(random: &mut Random) -> String {
 /// A relation line whose channels and receivers agree; half of them descend.
 pub fn relation(random: &mut Random) -> Line {
     let increment = index(random);
-    let components = increment.parse().unwrap_or(1);
-    let from_channel = 1 + random.below(9_999 - components + 1);
-    let most = (9_999 - from_channel + 1) / components;
-    let receivers = 1 + random.below(most);
-    let to_channel = from_channel + receivers * components - 1;
-    let lowest = random.below(99_999_999 - receivers + 2);
-    let ends = either_way(random, lowest, lowest + receivers - 1);
+    let ([from_channel, to_channel], ends) = agreeing(random, increment.parse().unwrap_or(1));
     let mut exactly = |width, number: usize| whole(random, width, number as i64..=number as i64);
     let channels = [exactly(4, from_channel), exactly(4, to_channel)];
     let numbers = ends.map(|end| exactly(8, end));
@@ -138,6 +132,17 @@ pub fn relation(random: &mut Random) -> Line {
         .at(48, &name(random, 16))
         .at(64, &numbers.concat())
         .at(80, &index(random))
+}
+
+/// From and to channel, and from and to receiver, that agree for so many components.
+pub fn agreeing(random: &mut Random, components: usize) -> ([usize; 2], [usize; 2]) {
+    let from_channel = 1 + random.below(9_999 - components + 1);
+    let most = (9_999 - from_channel + 1) / components;
+    let receivers = 1 + random.below(most);
+    let to_channel = from_channel + receivers * components - 1;
+    let lowest = random.below(99_999_999 - receivers + 2);
+    let ends = either_way(random, lowest, lowest + receivers - 1);
+    ([from_channel, to_channel], ends)
 }
 
 /// From and to receiver by the lowest and the highest, as often counted up as down.

@@ -120,6 +120,12 @@ impl Field<'_> {
     }
 }
 
+/// Whether the bytes that a caller gives are a name or a tape: bytes 32 to 126, the first of
+/// them not blank.
+pub fn is_name(bytes: &[u8]) -> bool {
+    bytes.iter().all(|byte| (32..=126).contains(byte)) && bytes.first() != Some(&b' ')
+}
+
 /// One digit or more, and nothing else. A field has at most 16 columns.
 fn digits(bytes: &[u8]) -> Option<i64> {
     if bytes.is_empty() || !bytes.iter().all(u8::is_ascii_digit) {

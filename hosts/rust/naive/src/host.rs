@@ -1,7 +1,6 @@
 //! What a C host asks with and gets: 64-bit numbers.
 
-use crate::traces::placeless;
-use crate::{Counts, File, Medium, Refusal, Trace};
+use crate::{placeless, Counts, File, Medium, PointValues, Refusal, RelationValues, Trace};
 
 /// The medium of a host's number; any other is 20, before all else.
 pub fn medium(number: u64) -> Result<Medium, Refusal> {
@@ -12,8 +11,8 @@ pub fn medium(number: u64) -> Result<Medium, Refusal> {
     }
 }
 
-/// The number of an answer; a well-formed file, an accepted set without traces and "none"
-/// are 0.
+/// The number of an answer; a well-formed file, an accepted set without traces, a line that is
+/// written and "none" are 0.
 pub trait HostNumber {
     fn host_number(&self) -> u64;
 }
@@ -33,7 +32,7 @@ impl HostNumber for Refusal {
     }
 }
 
-/// A well-formed file.
+/// A well-formed file, or a line that is written.
 impl HostNumber for () {
     fn host_number(&self) -> u64 {
         0
@@ -50,6 +49,19 @@ impl HostNumber for Trace {
     fn host_number(&self) -> u64 {
         let killed = u64::from(self.killed) << 32;
         killed + u64::from(self.r_line) * 16 + u64::from(self.component)
+    }
+}
+
+/// A point that is read: its state.
+impl HostNumber for PointValues {
+    fn host_number(&self) -> u64 {
+        self.state
+    }
+}
+
+impl HostNumber for RelationValues {
+    fn host_number(&self) -> u64 {
+        0
     }
 }
 

@@ -1,6 +1,6 @@
-//! A naive reader of SPS sets: the second opinion on the form of one file, the cross-check
-//! of three, the two lookups, the spread table, the lines of code tables and the showing of
-//! a line.
+//! A naive reader and writer of SPS sets: the second opinion on the form of one file, the
+//! cross-check of three, the two lookups, the spread table, the lines of code tables, the
+//! showing of a line and the writing of one.
 //!
 //! It is written from the paper alone and shares neither code nor definitions
 //! with the proved checker. It answers every input, of any length and bytes.
@@ -11,6 +11,10 @@
 //! file of a kind together (1 to 6), `set` compares the three files (7 to 19) and counts,
 //! `tables` has the codes that the header names (24 and 25), `traces` answers questions of
 //! an accepted set (20 and 21). `show` and `host` stand apart.
+//!
+//! The way back: `one_line` reads a line by itself (20, 3 to 6), `values` has what it holds and
+//! what a line is written from, `spell` gives each of them its one spelling, `write` puts the
+//! line together (22 and 23).
 
 #![forbid(unsafe_code)]
 
@@ -20,19 +24,24 @@ mod form;
 mod header;
 mod host;
 mod lines;
+mod one_line;
 mod point;
 mod relation;
 mod set;
 mod show;
+mod spell;
 mod tables;
 mod tape;
 mod traces;
+mod values;
+mod write;
 
 pub use host::{medium, HostNumber};
 pub use lines::Line;
 pub use point::{Marker, Place, Point, PointLine};
 pub use relation::Relation;
 pub use show::show;
+pub use values::{PointValues, RelationValues};
 
 use form::Form;
 
@@ -56,7 +65,7 @@ impl File {
     /// The file of a letter in a question; any other letter is 20.
     fn asked(letter: u64) -> Result<File, Refusal> {
         let is_it = |file: &File| u64::from(file.letter()) == letter;
-        [File::R, File::S, File::X].into_iter().find(is_it).ok_or(traces::placeless(20))
+        [File::R, File::S, File::X].into_iter().find(is_it).ok_or(placeless(20))
     }
 }
 
@@ -72,7 +81,7 @@ pub enum Medium {
 /// R, S and X.
 pub type Files<'a> = [&'a [u8]; 3];
 
-/// A refusal number with its place; 20 and 21 have none.
+/// A refusal number with its place; 20 to 23 have none.
 #[derive(Clone, Copy, Debug, PartialEq, Eq)]
 pub struct Refusal {
     pub number: u8,
@@ -117,6 +126,11 @@ impl Fault {
 /// The refusal of a number at a line and column of a file.
 fn refusal(number: u8, file: File, line: u32, column: u8) -> Refusal {
     Fault { number, column }.at(file, line)
+}
+
+/// 20 to 23 have no place.
+fn placeless(number: u8) -> Refusal {
+    Refusal { number, file: None, line: 0, column: 0 }
 }
 
 /// Checks the form of one file, which is R, S or X as the letter says.
@@ -195,4 +209,38 @@ pub fn read_point(file: File, line: &Line) -> Result<PointLine, Fault> {
 /// Reads the 80 columns of a line of X to its values: rules 5 and 6.
 pub fn read_relation(line: &Line) -> Result<Relation, Fault> {
     relation::read(line)
+}
+
+/// The values of a line of R or S in a file, by its letter and the number of the line: 20 for
+/// another letter, and for a line that does not stand there or is a header line; then 3, 4 and 5
+/// of that line.
+pub fn point_at(
+    medium: Medium,
+    letter: u64,
+    bytes: &[u8],
+    line: u64,
+) -> Result<PointValues, Refusal> {
+    let file = File::asked(letter)?;
+    if file == File::X {
+        return Err(placeless(20));
+    }
+    let point = one_line::read(medium, file, bytes, line, |line| point::read(file, line))?;
+    Ok(PointValues::of(file, &point))
+}
+
+/// The values of a line of X, as `point_at` has those of a point: 20, then 3 to 6.
+pub fn relation_at(medium: Medium, x: &[u8], line: u64) -> Result<RelationValues, Refusal> {
+    let relation = one_line::read(medium, File::X, x, line, relation::read)?;
+    Ok(RelationValues::from(&relation))
+}
+
+/// Writes a point: its line with CR and LF over the first 82 bytes of a slice; later bytes
+/// stay. 22 is looked for before 23, and a refusal writes nothing.
+pub fn write_point(values: &PointValues, out: &mut [u8]) -> Result<(), Refusal> {
+    write::point(values, out)
+}
+
+/// Writes a relation, as `write_point` does a point.
+pub fn write_relation(values: &RelationValues, out: &mut [u8]) -> Result<(), Refusal> {
+    write::relation(values, out)
 }

@@ -11,10 +11,7 @@ const MOST_LINES: usize = 9_999;
 
 /// The lines of a file, the record that ends a tape left out: 1, then 2, then 29.
 pub fn cut(medium: Medium, file: File, bytes: &[u8]) -> Result<Take<ChunksExact<'_, u8>>, Refusal> {
-    let lines = bytes.chunks_exact(match medium {
-        Medium::Disc => 82,
-        Medium::Tape => 80,
-    });
+    let lines = bytes.chunks_exact(width(medium));
     if !lines.remainder().is_empty() {
         let line = lines.len().min(MOST_LINES) as u32 + 1;
         return Err(refusal(1, file, line, 0));
@@ -27,6 +24,35 @@ pub fn cut(medium: Medium, file: File, bytes: &[u8]) -> Result<Take<ChunksExact<
         Medium::Tape => tape::before_end(file, lines.clone())?,
     };
     Ok(lines.take(own))
+}
+
+/// The bytes of a line.
+fn width(medium: Medium) -> usize {
+    match medium {
+        Medium::Disc => 82,
+        Medium::Tape => 80,
+    }
+}
+
+/// A line by its number, from 1, whatever else stands in the file. The last record of a tape is
+/// there to end it.
+pub fn line_at(medium: Medium, bytes: &[u8], line: u64) -> Option<&[u8]> {
+    let mut lines = bytes.chunks_exact(width(medium));
+    let own = match medium {
+        Medium::Disc => lines.len(),
+        Medium::Tape => lines.len().saturating_sub(1),
+    };
+    let line = usize::try_from(line).ok()?;
+    (1..=own.min(MOST_LINES)).contains(&line).then(|| lines.nth(line - 1))?
+}
+
+/// Whether a line starts with H, whatever stands behind it.
+pub fn is_header(medium: Medium, whole: &[u8]) -> bool {
+    let first = match medium {
+        Medium::Disc => Some(whole[0]),
+        Medium::Tape => tape::character(whole[0]),
+    };
+    first == Some(b'H')
 }
 
 /// The 80 columns of a line in ASCII, or 3.

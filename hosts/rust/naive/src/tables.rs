@@ -5,8 +5,7 @@ use crate::codes::is_numbered;
 use crate::fields::field;
 use crate::form::Form;
 use crate::set::live;
-use crate::traces::placeless;
-use crate::{refusal, File, Line, PointLine, Refusal, Relation};
+use crate::{placeless, refusal, File, Line, PointLine, Refusal, Relation};
 use std::collections::HashMap;
 
 /// What a code is a code of.

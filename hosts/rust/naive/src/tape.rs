@@ -55,12 +55,14 @@ pub fn before_end(file: File, mut records: ChunksExact<u8>) -> Result<usize, Ref
 pub fn translated(record: &[u8]) -> Result<Line, Fault> {
     let mut line = [b' '; 80];
     for ((column, &byte), to) in (1u8..).zip(record).zip(&mut line) {
-        match PAGE[usize::from(byte / 16)][usize::from(byte % 16)] {
-            b'~' => return Err(Fault { number: 3, column }),
-            character => *to = character,
-        }
+        *to = character(byte).ok_or(Fault { number: 3, column })?;
     }
     Ok(line)
+}
+
+/// The character of a byte that is taken.
+pub fn character(byte: u8) -> Option<u8> {
+    Some(PAGE[usize::from(byte / 16)][usize::from(byte % 16)]).filter(|&taken| taken != b'~')
 }
 
 /// A name in the tape's bytes.

@@ -1,16 +1,12 @@
 //! Questions of an accepted set: the lookup, the way back, the spread table.
 
+use crate::fields::is_name;
 use crate::set::{Set, Station};
-use crate::{Refusal, Relation, Trace};
+use crate::{placeless, Refusal, Relation, Trace};
 use std::ops::RangeInclusive;
 
 /// A tape and record within their ranges.
 pub type Asked = ([u8; 6], u16);
-
-/// 20 and 21 have no place.
-pub fn placeless(number: u8) -> Refusal {
-    Refusal { number, file: None, line: 0, column: 0 }
-}
 
 /// A number of a question within its range, or 20.
 pub fn within(number: u64, range: RangeInclusive<u64>) -> Result<u16, Refusal> {
@@ -25,9 +21,7 @@ pub fn within(number: u64, range: RangeInclusive<u64>) -> Result<u16, Refusal> {
 pub fn asked(tape: &[u8], record: u64) -> Result<Asked, Refusal> {
     let record = within(record, 0..=9999)?;
     match <[u8; 6]>::try_from(tape) {
-        Ok(tape) if tape[0] != b' ' && tape.iter().all(|byte| (32..=126).contains(byte)) => {
-            Ok((tape, record))
-        }
+        Ok(tape) if is_name(&tape) => Ok((tape, record)),
         _ => Err(placeless(20)),
     }
 }

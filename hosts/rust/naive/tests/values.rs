@@ -1,19 +1,11 @@
 //! The values of point and relation lines, and the columns of their faults.
 
+#[path = "common/columns.rs"]
+mod columns;
+
+use columns::{line_of, name};
 use naive::{read_point, read_relation, Fault, File, Marker, Place, Point, PointLine, Relation};
 use small_sets::{marker, receiver, relation, shot, Line};
-
-fn name(text: &str) -> [u8; 16] {
-    let mut name = [b' '; 16];
-    name[..text.len()].copy_from_slice(text.as_bytes());
-    name
-}
-
-/// The fields of a line, each with all its columns.
-fn line_of(fields: &[&str]) -> Line {
-    let text = fields.concat();
-    Line(text.as_bytes().try_into().expect("80 columns"))
-}
 
 fn point(file: File, line: Line) -> Point {
     match read_point(file, &line.0) {

@@ -1,6 +1,8 @@
 //! Sets of the paper's table, one in another spelling, one laid out backwards, one with more
-//! codes and one with killed points, as folders to look at, with the program's line.
+//! codes, one with killed points and those of two crews, as folders to look at, with the program's
+//! line.
 
+use crate::crews::{crew_one, crew_two};
 use crate::place::{below, first};
 use crate::table::write::{accepted, as_a, refused, with_dead};
 use crate::table::{backwards, code_tables, decimals, killed, paper};
@@ -46,6 +48,8 @@ pub fn examples() -> Vec<Example> {
         example("odd_channel", paper::odd_channel(), refused(6, X, first(), 72)),
         example("unsorted_receivers", paper::unsorted_receivers(), refused(10, R, below(3), 2)),
         example("unnamed_shot", paper::unnamed_shot(), refused(15, S, below(2), 1)),
+        example("crew_one", crew_one(), refused(15, S, below(2), 1)),
+        example("crew_two", crew_two(), refused(15, S, first(), 1)),
         example("missing_receiver", paper::missing_receiver(), refused(18, X, first(), 64)),
         example("other_blanks", paper::other_blanks(), refused(18, X, first(), 64)),
         example("covered_twice", paper::covered_twice(), refused(19, X, below(2), 64)),

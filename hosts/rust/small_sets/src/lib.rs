@@ -9,6 +9,7 @@
 
 mod case;
 mod codes;
+mod crews;
 mod examples;
 mod folders;
 mod line;

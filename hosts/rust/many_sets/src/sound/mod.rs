@@ -1,16 +1,17 @@
 //! Sound sets of varied shape, with what they hold.
 
+mod crews;
 mod headers;
 mod names;
+mod plan;
 mod points;
 mod relations;
 mod shape;
 mod tables;
 
 use crate::lines::marker;
-use points::{killed, receivers, shots};
-use relations::relations;
-use shape::Place;
+pub use crews::{crews, Crews};
+use plan::{Plan, Taken};
 use small_sets::{File, Line, Random, Set};
 
 /// A sound set, and its receivers, shots, relation lines, traces and dead traces.
@@ -35,31 +36,21 @@ const WIDE: Size = Size { run: 300, shots: 40, lines: 20, covered: 300 };
 pub fn sound(random: &mut Random) -> Sound {
     let size = if random.below(100) == 0 { WIDE } else { SMALL };
     let names = names::of_lines(random);
-    let receivers = receivers(random, &size, &names);
-    let shots = if receivers.is_empty() { Vec::new() } else { shots(random, &size, &names) };
-    let [dead, omitted] = [killed(random, &receivers), killed(random, &shots)];
-    let live: Vec<Place> = shots.iter().filter(|shot| !omitted.contains(shot)).cloned().collect();
-    let relations = relations(random, &size, &receivers, &live);
-    let counts = [
-        receivers.len() as u64,
-        shots.len() as u64,
-        relations.len() as u64,
-        relations.iter().map(|relation| relation.traces()).sum(),
-        relations.iter().map(|relation| relation.dead_traces(&dead)).sum(),
-    ];
-    let r = receivers.iter().map(|place| place.point(random, File::R, dead.contains(place)));
-    let r = r.collect();
-    let r = tables::few_codes(random, r);
-    let s = points::in_time(random, &shots, &omitted);
-    let s = tables::few_codes(random, s);
-    let x: Vec<Line> = relations.iter().map(|relation| relation.line(random)).collect();
-    let block = headers::block(random, &tables::used(&r, &s, &x));
-    let set = Set::default()
-        .each(|set, file| set.add_all(file, block.iter().copied()))
-        .add_all(File::R, with_markers(random, File::R, r))
-        .add_all(File::S, with_markers(random, File::S, s))
-        .add_all(File::X, x);
-    Sound { set, counts }
+    let plan = Plan::new(random, &size, &names, &mut Taken::default());
+    let [r, s, x] = plan.lines(random);
+    let header = headers::block(random, &tables::used(&r, &s, &x));
+    let r = with_markers(random, File::R, r);
+    let s = with_markers(random, File::S, s);
+    Sound { set: with_header(&header, [r, s, x]), counts: plan.counts() }
+}
+
+/// The header in each of the three files, and their own lines below it.
+fn with_header(header: &[Line], [r, s, x]: [Vec<Line>; 3]) -> Set {
+    Set::default()
+        .each(|set, file| set.add_all(file, header.iter().copied()))
+        .add_all(File::R, r)
+        .add_all(File::S, s)
+        .add_all(File::X, x)
 }
 
 /// Markers anywhere among the points.

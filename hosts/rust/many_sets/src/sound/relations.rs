@@ -1,6 +1,7 @@
 //! The relation lines of the shots, record by record.
 
 use super::names::tape;
+use super::plan::Taken;
 use super::shape::{any_digit, Place, Record, Relation};
 use super::Size;
 use small_sets::Random;
@@ -9,20 +10,20 @@ use std::collections::BTreeSet;
 /// The highest channel.
 const HIGHEST: u32 = 9_999;
 
-/// One record or two for each shot, no two of the same tape and number.
+/// One record or two for each shot, none of which is taken.
 pub fn relations(
     random: &mut Random,
     size: &Size,
     receivers: &BTreeSet<Place>,
     shots: &[Place],
+    taken: &mut Taken,
 ) -> Vec<Relation> {
     let mut relations = Vec::new();
-    let mut records = BTreeSet::new();
     for source in shots {
         let mut wanted = 1 + random.below(4) / 3;
         while wanted > 0 {
             let (tape, number) = (tape(random), record_number(random));
-            if records.insert((tape.clone(), number)) {
+            if taken.records.insert((tape.clone(), number)) {
                 let (increment, instrument) = (any_digit(random), any_digit(random));
                 let source = source.clone();
                 let record = Record { tape, number, increment, instrument, source };
