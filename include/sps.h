@@ -1,14 +1,15 @@
 /*
- * The proved checker of SPS sets, for C and C++. Link libsps.a.
+ * The proved checker and writer of SPS sets, for C and C++. Link libsps.a.
  *
  * Conventions
  *
  * A set is three files: R (receivers), S (shots), X (relations), lines of 80 columns. On disc CR
  * and LF end each line. On tape a line is a record of 80 bytes, code page 037 (EBCDIC), and a
  * record with EOF in columns 1 to 3 ends the file; its other columns hold any bytes. Lines and
- * columns count from 1, and the EOF record is a line. Every call takes the medium first, one of
- * enum sps_medium, then the three files, each as a pointer to its bytes and their number; sps_form
- * takes one file, and its kind before it.
+ * columns count from 1, and the EOF record is a line. Every call that takes files takes the medium
+ * first, one of enum sps_medium, then the three files, each as a pointer to its bytes and their
+ * number; sps_form and the calls that read one line take one file, and its kind before it. What is
+ * written is a line on disc.
  *
  * A tape is judged as its translation; the order of receivers alone (10) is that of the tape's own
  * bytes, in which letters come before digits. Questions and answers are in ASCII on both media.
@@ -20,14 +21,16 @@
  * with the numbers and files of the enums below; file, line and column are 0 where there is none.
  * It is never below 2^40, and every other answer is: the traces, R line * 16 + component with 2^32
  * more where the receiver is killed, the channel, the highest channel or the header line, and 0
- * where there is none. A well-formed file and an accepted set without traces answer 0 too. The
- * inline functions at the end take a number apart.
+ * where there is none, or the state of a point. A well-formed file, an accepted set without traces,
+ * a relation that is read and a line that is written answer 0 too. The inline functions at the end
+ * take a number apart.
  *
  * A refusal is the first breach in this order: a medium that is neither (20, before all else); a
  * kind or a question out of range (20); the form of R, then S, then X, or of the one file (1, 2, on
  * tape 29, then 3 to 6 line by line); the headers (7 to 9); the code tables (24, then 25 over R, S
  * and X); the receivers (10); the shots (11, 12); the relations (13, 14, 16 to 19); a shot that
- * none names (15); slices too short (21). It writes nothing.
+ * none names (15); slices too short (21). Of one line that is read it is 20, then 3 to 6 of that
+ * line alone; of one that is written it is 22, then 23. It writes nothing.
  *
  * The first records of the code tables in the header name codes in columns 33 and 34: H600, H610,
  * .. H690 those of receivers, H700, H720, .. H880 those of sources, H400, H420, .. H560
@@ -38,16 +41,16 @@
  * holds its channels, and the traces on them are dead. No relation line may name a killed shot
  * (13), and none has to (15).
  *
- * A call takes any bytes and any numbers. The medium, the kind and the numbers of a question are
- * 64-bit, so that nothing is cut before it is judged.
+ * A call takes any bytes and any numbers. The medium, the kind, the numbers of a question and the
+ * values of a line are 64-bit, so that nothing is cut before it is judged.
  *
  * What the host keeps
  *
  * - A pointer and a length name memory of that many bytes, all of it there. The pointer may be
  *   NULL where the length is 0.
  * - The memory stays, and nobody else changes it, until the call returns. The call keeps no pointer.
- * - Memory that a call writes (counts, lines, components) overlaps nothing else that it is given.
- *   Memory that it only reads may overlap.
+ * - Memory that a call writes (counts, lines, components, values that are read, a line that is
+ *   written) overlaps nothing else that it is given. Memory that it only reads may overlap.
  * - A call takes less than 200 KB of stack, and allocates nothing.
  * - Calls share nothing: they may run at the same time, also on the same files.
  */
@@ -91,8 +94,10 @@ enum sps_number {
     SPS_CHANNEL_ORDER = 17,    /* the channels of a record do not ascend */
     SPS_NO_RECEIVER = 18,      /* a covered receiver is not there */
     SPS_COVERED_TWICE = 19,    /* a receiver is covered twice in a record */
-    SPS_QUESTION_RANGE = 20,   /* a medium, a kind or a question is out of range */
+    SPS_QUESTION_RANGE = 20,   /* a medium, a kind, a line or a question is out of range */
     SPS_SLICE_LENGTH = 21,     /* a slice of the spread table is too short */
+    SPS_VALUE_RANGE = 22,      /* values that no line has, or a marker's */
+    SPS_LINE_LENGTH = 23,      /* the slice for a line is shorter than 82 bytes */
     SPS_CODE_NAMED_TWICE = 24, /* a code table names a code that an earlier one names */
     SPS_CODE_NOT_NAMED = 25,   /* a code or an instrument is used that no code table names */
     SPS_TAPE_END = 29          /* no EOF record ends the tape, or records follow the first */
@@ -100,7 +105,7 @@ enum sps_number {
 
 /* The file of a refusal. */
 enum sps_file {
-    SPS_NO_FILE = 0, /* of 20 and 21 */
+    SPS_NO_FILE = 0, /* of 20 to 23 */
     SPS_R = 1,
     SPS_S = 2,
     SPS_X = 3
@@ -210,6 +215,119 @@ uint64_t sps_table_line(uint64_t medium, const uint8_t *r, size_t r_len, const u
                         size_t s_len, const uint8_t *x, size_t x_len, uint64_t kind,
                         const uint8_t *code, size_t code_len);
 
+/*
+ * The values of one line
+ *
+ * They are sixteen numbers, each in a place of eight bytes, the low one first, which are signed:
+ * two's complement. Places count from 0. A name, a tape and a code are the numbers that their bytes
+ * make, the high one first, in ASCII on both media and with their blanks; a name takes two places.
+ * Depth, water depth, easting, northing and elevation are in tenths: 326260.1 is 3262601, -0.5 is
+ * -5. Static, uphole and water depth may be absent, which is SPS_ABSENT and no other number. Blank
+ * indices and increments and a blank instrument are read as 1.
+ *
+ * The inline functions at the end put a value, a name, a tape or a code into its places, and get
+ * it back.
+ */
+#define SPS_ABSENT INT64_MIN
+
+enum {
+    SPS_VALUES_LEN = 128, /* the bytes of the sixteen places */
+    SPS_LINE_LEN = 82     /* the bytes of a line on disc, with CR and LF */
+};
+
+/* What a point is. */
+enum sps_state {
+    SPS_LIVE = 0,
+    SPS_KILLED = 1, /* its code is KL */
+    SPS_MARKER = 2  /* its code is PM: it is no point */
+};
+
+/* The places of a line of R or S, with what a line has in them. */
+enum sps_point_place {
+    SPS_POINT_NAME_HIGH = 0,    /* line name, first eight bytes: 32 to 126, the first no blank */
+    SPS_POINT_NAME_LOW = 1,     /* last eight bytes */
+    SPS_POINT_NUMBER = 2,       /* 0 to 99999999 */
+    SPS_POINT_INDEX = 3,        /* 1 to 9 */
+    SPS_POINT_CODE = 4,         /* in R a G, H or R, in S a V, E, A, W or S, and 1 to 9; KL; PM */
+    SPS_POINT_STATE = 5,        /* one of enum sps_state, which the code decides */
+    SPS_POINT_STATIC = 6,       /* -999 to 999, or absent */
+    SPS_POINT_DEPTH = 7,        /* tenths, 0 to 999 */
+    SPS_POINT_DATUM = 8,        /* seismic datum, -999 to 9999 */
+    SPS_POINT_UPHOLE = 9,       /* 0 to 99, or absent */
+    SPS_POINT_WATER_DEPTH = 10, /* tenths, 0 to 999, or by tens 1000 to 9990, or absent */
+    SPS_POINT_EASTING = 11,     /* tenths, -99999999 to 999999999 */
+    SPS_POINT_NORTHING = 12,    /* tenths, -999999999 to 9999999999 */
+    SPS_POINT_ELEVATION = 13,   /* tenths, -9999 to 99999 */
+    SPS_POINT_DAY = 14,         /* 1 to 999 */
+    SPS_POINT_TIME = 15         /* hhmmss as one number, 0 to 235959: 071245 is 71245 */
+};
+
+/* The places of a line of X, with what a line has in them. */
+enum sps_relation_place {
+    SPS_RELATION_TAPE = 0,                /* six bytes 32 to 126, the first no blank */
+    SPS_RELATION_RECORD = 1,              /* field record, 0 to 9999 */
+    SPS_RELATION_RECORD_INCREMENT = 2,    /* 1 to 9 */
+    SPS_RELATION_INSTRUMENT = 3,          /* 1 to 9 */
+    SPS_RELATION_SOURCE_NAME_HIGH = 4,    /* line name of the shot, as that of a point */
+    SPS_RELATION_SOURCE_NAME_LOW = 5,
+    SPS_RELATION_SOURCE_NUMBER = 6,       /* 0 to 99999999 */
+    SPS_RELATION_SOURCE_INDEX = 7,        /* 1 to 9 */
+    SPS_RELATION_FROM_CHANNEL = 8,        /* 1 to 9999 */
+    SPS_RELATION_TO_CHANNEL = 9,          /* 1 to 9999 */
+    SPS_RELATION_CHANNEL_INCREMENT = 10,  /* channels a receiver, 1 to 9 */
+    SPS_RELATION_RECEIVER_NAME_HIGH = 11, /* line name of the receivers, as that of a point */
+    SPS_RELATION_RECEIVER_NAME_LOW = 12,
+    SPS_RELATION_FROM_RECEIVER = 13,      /* 0 to 99999999 */
+    SPS_RELATION_TO_RECEIVER = 14,        /* 0 to 99999999, below the other where they descend */
+    SPS_RELATION_RECEIVER_INDEX = 15      /* 1 to 9 */
+};
+
+/*
+ * Reads a line of R or S, by its letter, SPS_KIND_R or SPS_KIND_S. Answers the state of the point,
+ * one of enum sps_state, or a refusal: 20 for a medium or a letter that is neither, and for a line
+ * that is not 1 to 9999, is beyond the file, is the last record of a tape or is a header line; then
+ * 3, 4 or 5 of that line, in the file of the letter. Other lines are not looked at.
+ *
+ * The sixteen places go into values as far as it has them whole: values_len / 8 places, at most
+ * sixteen. Every other byte stays. A refusal writes nothing. SPS_VALUES_LEN bytes take all.
+ *
+ * Of a marker the line name, index, code, state, easting, northing and elevation are told. Its
+ * other columns are free text, and what stands in their places says nothing.
+ */
+uint64_t sps_read_point(uint64_t medium, uint64_t letter, const uint8_t *file, size_t file_len,
+                        uint64_t line, uint8_t *values, size_t values_len);
+
+/*
+ * Reads a line of X, as sps_read_point does one of R or S. Answers 0, or a refusal: 20, then 3 to 6
+ * of that line.
+ */
+uint64_t sps_read_relation(uint64_t medium, const uint8_t *x, size_t x_len, uint64_t line,
+                           uint8_t *values, size_t values_len);
+
+/*
+ * Writes a line of R or S, by its letter, SPS_KIND_R or SPS_KIND_S, over the first SPS_LINE_LEN
+ * bytes of line; later bytes stay. Answers 0, or a refusal, which writes nothing: 22, then 23 where
+ * line_len is less than SPS_LINE_LEN.
+ *
+ * It is 22 for a letter that is neither, a values_len other than SPS_VALUES_LEN, a value that the
+ * places above do not have, a code of the other file, a state that is not the code's, and a marker.
+ *
+ * A line has one spelling. Numbers stand on the right of their columns, blanks before them, and the
+ * time alone has zeros before it. Absent values are blank; an index, an increment and an instrument
+ * of 1 are written. Decimals have their point, but for an easting or a northing that is too wide
+ * with it, and a water depth above 99.9, which is whole metres. A line that is written is read with
+ * the same values.
+ */
+uint64_t sps_write_point(uint64_t letter, const uint8_t *values, size_t values_len, uint8_t *line,
+                         size_t line_len);
+
+/*
+ * Writes a line of X, as sps_write_point does one of R or S. It is 22, too, for channels that are
+ * crossed or do not fit their receivers, as 6 has it.
+ */
+uint64_t sps_write_relation(const uint8_t *values, size_t values_len, uint8_t *line,
+                            size_t line_len);
+
 /* Whether an answer is a refusal: 1 or 0. */
 static inline int sps_is_refused(uint64_t answer)
 {
@@ -267,6 +385,76 @@ static inline int sps_trace_killed(uint64_t trace)
 static inline unsigned sps_spread_line(const uint8_t *lines, size_t channel)
 {
     return lines[2 * channel - 2] + 256u * lines[2 * channel - 1];
+}
+
+/* Puts a value into a place, from 0, of the values of a line. */
+static inline void sps_put_value(uint8_t *values, size_t place, int64_t value)
+{
+    size_t at;
+    for (at = 0; at < 8; at++)
+        values[8 * place + at] = (uint8_t)((uint64_t)value >> 8 * at & 255);
+}
+
+/* The value in a place. */
+static inline int64_t sps_value(const uint8_t *values, size_t place)
+{
+    uint64_t value = sps_count(values, place);
+    return value >> 63 ? -(int64_t)(UINT64_MAX - value) - 1 : (int64_t)value;
+}
+
+/* Puts so many bytes, at most eight, into a place as one number, the high byte first. */
+static inline void sps_put_text(uint8_t *values, size_t place, const void *text, size_t len)
+{
+    size_t at;
+    sps_put_value(values, place, 0);
+    for (at = 0; at < len; at++)
+        values[8 * place + len - 1 - at] = ((const uint8_t *)text)[at];
+}
+
+/* Gets them back. */
+static inline void sps_get_text(const uint8_t *values, size_t place, void *text, size_t len)
+{
+    size_t at;
+    for (at = 0; at < len; at++)
+        ((uint8_t *)text)[at] = values[8 * place + len - 1 - at];
+}
+
+/* Puts the 16 columns of a line name into the place of its high bytes and the next one. */
+static inline void sps_put_name(uint8_t *values, size_t high, const void *name)
+{
+    sps_put_text(values, high, name, 8);
+    sps_put_text(values, high + 1, (const uint8_t *)name + 8, 8);
+}
+
+static inline void sps_get_name(const uint8_t *values, size_t high, void *name)
+{
+    sps_get_text(values, high, name, 8);
+    sps_get_text(values, high + 1, (uint8_t *)name + 8, 8);
+}
+
+/* Puts the two columns of a code into the values of a point, with the state that it decides. */
+static inline void sps_put_code(uint8_t *values, const void *code)
+{
+    const uint8_t *at = (const uint8_t *)code;
+    int killed = at[0] == 'K' && at[1] == 'L', marker = at[0] == 'P' && at[1] == 'M';
+    sps_put_text(values, SPS_POINT_CODE, code, 2);
+    sps_put_value(values, SPS_POINT_STATE, killed ? SPS_KILLED : marker ? SPS_MARKER : SPS_LIVE);
+}
+
+static inline void sps_get_code(const uint8_t *values, void *code)
+{
+    sps_get_text(values, SPS_POINT_CODE, code, 2);
+}
+
+/* Puts the six columns of a tape into the values of a relation. */
+static inline void sps_put_tape(uint8_t *values, const void *tape)
+{
+    sps_put_text(values, SPS_RELATION_TAPE, tape, 6);
+}
+
+static inline void sps_get_tape(const uint8_t *values, void *tape)
+{
+    sps_get_text(values, SPS_RELATION_TAPE, tape, 6);
 }
 
 #ifdef __cplusplus

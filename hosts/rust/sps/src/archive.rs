@@ -93,6 +93,36 @@ mod c {
             code: *const u8,
             code_len: usize,
         ) -> u64;
+        pub fn sps_read_point(
+            medium: u64,
+            letter: u64,
+            file: *const u8,
+            file_len: usize,
+            line: u64,
+            values: *mut u8,
+            values_len: usize,
+        ) -> u64;
+        pub fn sps_read_relation(
+            medium: u64,
+            x: *const u8,
+            x_len: usize,
+            line: u64,
+            values: *mut u8,
+            values_len: usize,
+        ) -> u64;
+        pub fn sps_write_point(
+            letter: u64,
+            values: *const u8,
+            values_len: usize,
+            line: *mut u8,
+            line_len: usize,
+        ) -> u64;
+        pub fn sps_write_relation(
+            values: *const u8,
+            values_len: usize,
+            line: *mut u8,
+            line_len: usize,
+        ) -> u64;
     }
 }
 
@@ -216,6 +246,31 @@ pub fn table_line(Files { medium, r, s, x }: Files, kind: u64, code: &[u8]) -> u
             code.len(),
         )
     }
+}
+
+pub fn read_point(medium: u64, letter: u64, file: &[u8], line: u64, values: &mut [u8]) -> u64 {
+    let (places, length) = (values.as_mut_ptr(), values.len());
+    // SAFETY: each pointer and length are those of one slice, and the one that is
+    // written is lent alone.
+    unsafe { c::sps_read_point(medium, letter, file.as_ptr(), file.len(), line, places, length) }
+}
+
+pub fn read_relation(medium: u64, x: &[u8], line: u64, values: &mut [u8]) -> u64 {
+    let (places, length) = (values.as_mut_ptr(), values.len());
+    // SAFETY: as of `read_point`.
+    unsafe { c::sps_read_relation(medium, x.as_ptr(), x.len(), line, places, length) }
+}
+
+pub fn write_point(letter: u64, values: &[u8], line: &mut [u8]) -> u64 {
+    let (columns, length) = (line.as_mut_ptr(), line.len());
+    // SAFETY: as of `read_point`.
+    unsafe { c::sps_write_point(letter, values.as_ptr(), values.len(), columns, length) }
+}
+
+pub fn write_relation(values: &[u8], line: &mut [u8]) -> u64 {
+    let (columns, length) = (line.as_mut_ptr(), line.len());
+    // SAFETY: as of `read_point`.
+    unsafe { c::sps_write_relation(values.as_ptr(), values.len(), columns, length) }
 }
 
 /// The bytes that 16-bit numbers stand in.

@@ -2,8 +2,8 @@
 
 use std::fmt;
 
-/// What a set or a question is refused for, in the paper's order. Shown, it is the
-/// paper's reason in words.
+/// What a set, a question or a line to write is refused for, in the paper's order. Shown, it is
+/// the paper's reason in words.
 ///
 /// ```
 /// # use sps::Number;
@@ -52,10 +52,14 @@ pub enum Number {
     NoReceiver,
     /// 19: a receiver is covered twice in a record.
     CoveredTwice,
-    /// 20: a medium, a kind of file or a question is out of range.
+    /// 20: a medium, a kind of file, a line or a question is out of range.
     QuestionRange,
     /// 21: a slice of the spread table is too short.
     SliceLength,
+    /// 22: values that no line has, or a marker's.
+    ValueRange,
+    /// 23: the slice for a line is shorter than 82 bytes.
+    LineLength,
     /// 24: a first record of a code table names a code that an earlier one names.
     CodeNamedTwice,
     /// 25: a code or an instrument is used that no first record names.
@@ -69,14 +73,14 @@ pub enum Number {
 use Number::*;
 
 impl Number {
-    /// The numbers of the paper, 1 to 21, 24, 25 and 29.
+    /// The numbers of the paper, 1 to 25 and 29.
     ///
     /// ```
     /// # use sps::Number;
     /// let numbers = Number::ALL.iter().map(|number| number.code());
-    /// assert!(numbers.eq((1..=21).chain([24, 25, 29])));
+    /// assert!(numbers.eq((1..=25).chain([29])));
     /// ```
-    pub const ALL: [Number; 24] = [
+    pub const ALL: [Number; 26] = [
         FileLength,
         TooManyLines,
         Byte,
@@ -98,6 +102,8 @@ impl Number {
         CoveredTwice,
         QuestionRange,
         SliceLength,
+        ValueRange,
+        LineLength,
         CodeNamedTwice,
         CodeNotNamed,
         TapeEnd,
@@ -132,6 +138,8 @@ impl Number {
             CoveredTwice => 19,
             QuestionRange => 20,
             SliceLength => 21,
+            ValueRange => 22,
+            LineLength => 23,
             CodeNamedTwice => 24,
             CodeNotNamed => 25,
             TapeEnd => 29,
@@ -144,7 +152,7 @@ impl Number {
     /// ```
     /// # use sps::Number;
     /// assert_eq!(Number::of(3), Number::Byte);
-    /// assert_eq!(Number::of(22), Number::Unknown(22));
+    /// assert_eq!(Number::of(26), Number::Unknown(26));
     /// ```
     pub fn of(code: u64) -> Number {
         let named = Number::ALL.into_iter().find(|number| number.code() == code);
@@ -207,9 +215,15 @@ impl Number {
                  a tape name is 6 columns of bytes 32 to 126 that start with a non-blank, a record \
                  is at most 9999, a channel and an R line are 1 to 9999, a component is 1 to 9, \
                  a code is that of a receiver, a source or an instrument, as is asked, and not PM \
-                 or KL"
+                 or KL, a line to read is one of the file, and no header line"
             }
             SliceLength => "a slice of the spread table is shorter than the record's highest channel",
+            ValueRange => {
+                "no line has these values: a marker is not written, a name or a tape is bytes 32 \
+                 to 126 that start with a non-blank, a code is one of the file with its state, a \
+                 number is within its rule and its columns, channels fit their receivers"
+            }
+            LineLength => "the slice for a line is shorter than 82 bytes",
             CodeNamedTwice => {
                 "the first record of a code table names a code, in columns 33 and 34, that the \
                  first record of an earlier one names"

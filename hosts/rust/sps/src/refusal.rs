@@ -44,7 +44,7 @@ impl File {
 pub struct Refusal {
     /// Which of the paper's refusals it is.
     pub number: Number,
-    /// The file of the breach; none for questions (20) and slices (21).
+    /// The file of the breach; none for questions (20), slices (21 and 23) and values (22).
     pub file: Option<File>,
     /// Its line, from 1; 0 where there is no file.
     pub line: u64,

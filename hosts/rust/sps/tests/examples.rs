@@ -1,15 +1,22 @@
 //! What the examples print. `cargo test` builds them beside the tests.
 
 use small_sets::place::{below, first};
-use std::path::Path;
+use std::ffi::OsStr;
+use std::path::{Path, PathBuf};
 use std::process::Command;
 
+const NONE: &[&str] = &[];
+
+/// A folder or a file of `examples/`.
+fn stored(place: &str) -> PathBuf {
+    Path::new(env!("CARGO_MANIFEST_DIR")).join("../../../examples").join(place)
+}
+
 /// Runs an example on a folder or a file of `examples/`; the status is 0 unless it is said.
-fn printed(example: &str, place: &str, words: &[&str], well: bool) -> String {
+fn printed(example: &str, place: &str, words: &[impl AsRef<OsStr>], well: bool) -> String {
     let bin = Path::new(env!("CARGO_BIN_EXE_spswhy"));
     let program = bin.with_file_name("examples").join(example);
-    let place = Path::new(env!("CARGO_MANIFEST_DIR")).join("../../../examples").join(place);
-    let output = Command::new(&program).arg(place).args(words).output();
+    let output = Command::new(&program).arg(stored(place)).args(words).output();
     let output = output.expect("an example, as `cargo test` builds it when no target is named");
     assert_eq!(output.status.success(), well, "{example}: {output:?}");
     String::from_utf8(output.stdout).expect("text")
@@ -26,14 +33,14 @@ fn form() {
     );
     assert_eq!(printed("form", "set_a/set.s01", &["R"], true), refused);
     assert_eq!(printed("form", "set_a/set.s01", &["s"], false), "");
-    assert_eq!(printed("form", "set_a/set.s01", &[], false), "");
+    assert_eq!(printed("form", "set_a/set.s01", NONE, false), "");
 }
 
 #[test]
 fn cross() {
     let accepted = "ACCEPTED 3 1 1 3 0\n3 receivers, 1 shots\n1 relation lines, 3 traces\n\
                     0 dead traces\n";
-    assert_eq!(printed("cross", "set_a", &[], true), accepted);
+    assert_eq!(printed("cross", "set_a", NONE, true), accepted);
     assert_eq!(printed("cross", "set_a_tape", &["--tape"], true), accepted);
     let third = below(3);
     let refused = format!(
@@ -41,7 +48,7 @@ fn cross() {
          the receiver line before it, by line name, point number and index; on tape letters come \
          before digits\n"
     );
-    assert_eq!(printed("cross", "unsorted_receivers", &[], true), refused);
+    assert_eq!(printed("cross", "unsorted_receivers", NONE, true), refused);
 }
 
 #[test]
@@ -60,6 +67,21 @@ fn spread() {
     let lines: String =
         (1..=3).map(|n| format!("channel {n}: R line {}, component 1\n", below(n))).collect();
     let table = format!("highest channel 3\n{lines}");
-    assert_eq!(printed("spread", "set_a", &[], true), table);
-    assert_eq!(printed("spread", "headers_only", &[], true), "highest channel 0\n");
+    assert_eq!(printed("spread", "set_a", NONE, true), table);
+    assert_eq!(printed("spread", "headers_only", NONE, true), "highest channel 0\n");
+}
+
+/// The lines stand in the order of the shots, and what was blank is written.
+#[test]
+fn merge() {
+    let merged = "\
+        X100     1111L1                   5011   1   31L1                   101     1031\n\
+        X200     1111L1                   5021   1   31L1                   103     1011\n\
+        X100     1211L1                   5031   1   31L1                   101     1031\n\
+        ACCEPTED 3 3 3 9 0\n";
+    assert_eq!(printed("merge", "crew_one", &[stored("crew_two")], true), merged);
+    assert_eq!(printed("merge", "crew_two", &[stored("crew_one")], true), merged);
+    assert!(!printed("merge", "crew_one", &[stored("crew_one")], false).contains("ACCEPTED"));
+    assert_eq!(printed("merge", "crew_one", &[stored("odd_channel")], false), "");
+    assert_eq!(printed("merge", "crew_one", NONE, false), "");
 }

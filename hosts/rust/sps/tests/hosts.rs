@@ -14,14 +14,18 @@ const ARCHIVE: &str = env!("ARCHIVE");
 const WARNINGS: [&str; 4] = ["-Wall", "-Wextra", "-Werror", "-pedantic"];
 
 /// The calls of the archive.
-const CALLS: [&str; 7] = [
+const CALLS: [&str; 11] = [
     "sps_channel",
     "sps_counts",
     "sps_cross",
     "sps_form",
+    "sps_read_point",
+    "sps_read_relation",
     "sps_spread",
     "sps_table_line",
     "sps_trace",
+    "sps_write_point",
+    "sps_write_relation",
 ];
 
 fn root() -> PathBuf {
@@ -108,6 +112,12 @@ fn c() {
 }
 
 #[test]
+fn c_lines() {
+    let lines = compiled("cc", "-std=c99", "lines.c", "lines_c");
+    run(lines, &[&set_a(), &set_a_tape(), &killed()]);
+}
+
+#[test]
 fn c_example() {
     let example = compiled("cc", "-std=c99", "example.c", "example_c");
     let files = |folder: PathBuf| ["set.r01", "set.s01", "set.x01"].map(|name| folder.join(name));
@@ -144,10 +154,12 @@ fn cpp() {
 /// No byte is read or written that is not lent, and none is read before it is written.
 #[test]
 fn c_under_valgrind() {
-    let calls = compiled("cc", "-std=c99", "calls.c", "calls_valgrind");
     let strict = ["--quiet", "--error-exitcode=9", "--leak-check=full"];
     let [quiet, code, leaks] = &strict;
-    run("valgrind", &[quiet, code, leaks, &calls, &set_a(), &set_a_tape(), &killed()]);
+    for (source, name) in [("calls.c", "calls_valgrind"), ("lines.c", "lines_valgrind")] {
+        let calls = compiled("cc", "-std=c99", source, name);
+        run("valgrind", &[quiet, code, leaks, &calls, &set_a(), &set_a_tape(), &killed()]);
+    }
 }
 
 /// The archive is made into a shared object.
@@ -175,7 +187,23 @@ fn answers(set: &Set, record: u32) -> String {
     let spread =
         naive::spread(medium, files, tape, record, &mut lines, &mut components).host_number();
     let line = naive::table_line(medium, files, b'R'.into(), b"G1").host_number();
-    format!("{r} {s} {x} {crossed} {crossed} {trace} {channel} {spread} {line}\n")
+    let sets = format!("{r} {s} {x} {crossed} {crossed} {trace} {channel} {spread} {line}");
+    format!("{sets} {}\n", copied(medium, set))
+}
+
+/// The same of the last lines of R and X, read and written; on tape one with EOF stands after
+/// them.
+fn copied(medium: naive::Medium, set: &Set) -> String {
+    let end = usize::from(medium == naive::Medium::Tape);
+    let [r, x] = [File::R, File::X].map(|file| (set.lines(file) - end) as u64);
+    let point = naive::point_at(medium, b'R'.into(), &set.r, r).expect("a receiver");
+    let relation = naive::relation_at(medium, &set.x, x).expect("a relation");
+    let [mut first, mut second] = [[0; 82]; 2];
+    let written = [
+        naive::write_point(&point, &mut first).host_number(),
+        naive::write_relation(&relation, &mut second).host_number(),
+    ];
+    format!("{} {} {} {}", point.host_number(), written[0], relation.host_number(), written[1])
 }
 
 /// Sets of 9,999 lines a file that differ in what has to be sorted and searched, with a
@@ -184,7 +212,7 @@ fn large_sets() -> Vec<(&'static str, Set, u32)> {
     let (accepted, last_record) = (two_million_traces(), most() - 1);
     let traces = 200 * most();
     let line = 9_999 * 16 + 1;
-    let found = format!("0 0 0 {traces} {traces} {line} 200 200 {}\n", header_line(600));
+    let found = format!("0 0 0 {traces} {traces} {line} 200 200 {} 0 0 0 0\n", header_line(600));
     assert_eq!(answers(&accepted, last_record), found);
     let refused = accepted.clone().put(File::X, 9_999, 8, "   0");
     let mut sets = vec![("accepted", accepted, last_record), ("refused", refused, last_record)];
@@ -228,7 +256,7 @@ fn written(name: &str, set: &Set) -> PathBuf {
     folder
 }
 
-/// The archive has the seven calls, asks for no more than `memset` and its like, and has
+/// The archive has the eleven calls, asks for no more than `memset` and its like, and has
 /// no memory of its own that is written: it allocates and shares nothing.
 #[test]
 fn symbols_of_the_archive() {

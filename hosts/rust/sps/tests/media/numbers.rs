@@ -13,7 +13,7 @@ const OUT_OF_RANGE: u64 = 20 << 40;
 
 const STAYS: u8 = 0xAA;
 
-/// The answers of the seven calls; what is lent stays.
+/// The answers of the calls that take whole files; what is lent stays.
 fn answers(files: Files, tape: &[u8], numbers: [u64; 4]) -> [u64; 7] {
     let [record, channel, r_line, component] = numbers;
     let (counts, bytes) = lent(STAYS, 48, |bytes| archive::counts(files, bytes));
