@@ -1,23 +1,10 @@
 /*
- * Every call and every inline function of sps.h, from C. The arguments are the folders of set A on
- * disc and on tape, and of a set with a killed receiver and a killed shot.
+ * Every call on whole files, and every inline function for their answers, from C. The arguments are
+ * the folders of set A on disc and on tape, and of a set with a killed receiver and a killed shot.
  */
 #include "try.h"
-#include <string.h>
 
 static const uint8_t tape[] = {'1', '0', '0', ' ', ' ', ' '};
-
-/* The last header line of set A, and the three lines below it. */
-enum { LAST_HEADER = 24, FIRST, SECOND, THIRD };
-
-/* What stands in memory that is lent to be written. */
-enum { STAYS = 0xAA };
-
-/* Text over the columns of a line on disc, from 1. */
-static void put(struct bytes file, size_t line, size_t column, const char *text)
-{
-    memcpy(file.at + (line - 1) * 82 + column - 1, text, strlen(text));
-}
 
 /* The same in all three files. */
 static void put_in_all(struct set set, size_t line, size_t column, const char *text)

@@ -73,6 +73,16 @@ struct Set {
         return sps_table_line(medium, r.data(), r.size(), s.data(), s.size(), x.data(), x.size(),
                               kind, code.data(), code.size());
     }
+    std::uint64_t read_point(std::uint64_t letter, const Bytes &file, std::uint64_t line,
+                             Bytes &values) const
+    {
+        return sps_read_point(medium, letter, file.data(), file.size(), line, values.data(),
+                              values.size());
+    }
+    std::uint64_t read_relation(std::uint64_t line, Bytes &values) const
+    {
+        return sps_read_relation(medium, x.data(), x.size(), line, values.data(), values.size());
+    }
 };
 
 Set read_set(std::uint64_t medium, const std::string &folder)
@@ -176,6 +186,65 @@ void killed(const Set &set)
     }
 }
 
+// The receiver FIRST of set A and its relation line, with their values.
+void reads(const Set &set)
+{
+    Bytes values(SPS_VALUES_LEN + 1, 0xAA), stays(SPS_VALUES_LEN, 0xAA);
+    std::string name(16, ' '), code(2, ' '), tape(6, ' ');
+    same("a receiver", set.read_point(SPS_KIND_R, set.r, FIRST, values), SPS_LIVE);
+    sps_get_name(values.data(), SPS_POINT_NAME_HIGH, &name[0]);
+    sps_get_code(values.data(), &code[0]);
+    same("its name", name, "L1              ");
+    same("its code", code, "G1");
+    same("its number", sps_value(values.data(), SPS_POINT_NUMBER), 101);
+    same("no static", sps_value(values.data(), SPS_POINT_STATIC), SPS_ABSENT);
+    same("its time", sps_value(values.data(), SPS_POINT_TIME), 71245);
+    same("the byte behind", values.back(), 0xAA);
+    same("a relation line", set.read_relation(FIRST, values), 0u);
+    sps_get_tape(values.data(), &tape[0]);
+    same("its tape", tape, "100   ");
+    same("its last receiver", sps_value(values.data(), SPS_RELATION_TO_RECEIVER), 103);
+    const Bytes before = stays;
+    same("a header line", set.read_point(SPS_KIND_R, set.r, OF_G1, stays), UINT64_C(20) << 40);
+    same("a line beyond", set.read_relation(THIRD, stays), UINT64_C(20) << 40);
+    same("a line of another file",
+         sps_refusal_number(set.read_point(SPS_KIND_S, set.r, FIRST, stays)), SPS_LETTER);
+    same("the values of a refusal", stays, before);
+}
+
+// Lines of set A, read on a medium, changed, and written on disc.
+void writes(const Set &set, const Set &disc)
+{
+    Bytes values(SPS_VALUES_LEN), line(SPS_LINE_LEN + 1, 0xAA);
+    Bytes expected(disc.r.begin() + (FIRST - 1) * SPS_LINE_LEN,
+                   disc.r.begin() + FIRST * SPS_LINE_LEN);
+    expected.push_back(0xAA);
+    const auto write = [&] {
+        return sps_write_point(SPS_KIND_R, values.data(), values.size(), line.data(), line.size());
+    };
+    set.read_point(SPS_KIND_R, set.r, FIRST, values);
+    same("a line as it was", write(), 0u);
+    same("its bytes", line, expected);
+    sps_put_code(values.data(), "KL");
+    sps_put_value(values.data(), SPS_POINT_ELEVATION, -5);
+    same("a killed receiver", write(), 0u);
+    same("its code", std::string(line.begin() + 26, line.begin() + 28), "KL");
+    same("its elevation", std::string(line.begin() + 65, line.begin() + 71), "  -0.5");
+
+    const Bytes stays = line;
+    sps_put_value(values.data(), SPS_POINT_INDEX, 10);
+    same("no index", sps_refusal_number(write()), SPS_VALUE_RANGE);
+    set.read_relation(FIRST, values);
+    same("a relation in too few bytes",
+         sps_refusal_number(sps_write_relation(values.data(), values.size(), line.data(), 81)),
+         SPS_LINE_LENGTH);
+    same("what a refusal writes", line, stays);
+    sps_put_tape(values.data(), "200   ");
+    same("a relation",
+         sps_write_relation(values.data(), values.size(), line.data(), line.size()), 0u);
+    same("its tape", std::string(line.begin(), line.begin() + 7), "X200   ");
+}
+
 // Files of no byte, and a medium that is neither.
 void media(Set set)
 {
@@ -208,6 +277,10 @@ int main(int count, char **words)
     refusals(disc, THIRD);
     refusals(tape, THIRD + 1);
     media(disc);
+    reads(disc);
+    reads(tape);
+    writes(disc, disc);
+    writes(tape, disc);
     killed(read_set(SPS_DISC, words[3]));
     return failures != 0;
 }

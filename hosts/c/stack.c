@@ -1,11 +1,10 @@
 /*
  * Every call in a thread of a small stack. The arguments are the medium and the folder of a set of
  * 9,999 lines a file, and the record to ask for, on tape 100. It prints the answers in one line, of
- * the form for each file.
+ * the form for each file. The last lines of R and X are read and written.
  */
 #include "try.h"
 #include <pthread.h>
-#include <string.h>
 
 /* The bytes of the stack, in whole pages; what the thread itself takes is in it. */
 enum { STACK = 204800 };
@@ -18,7 +17,28 @@ struct answers {
     struct set set;
     uint64_t record;
     uint64_t r, s, x, cross, counts, trace, channel, spread, table_line;
+    uint64_t read_point, write_point, read_relation, write_relation;
 };
+
+/* The last line of a file; on tape the EOF record stands after it. */
+static uint64_t last_line(uint64_t medium, struct bytes file)
+{
+    return medium == SPS_DISC ? file.len / 82 : file.len / 80 - 1;
+}
+
+/* Reads the last lines of R and X, and writes them. */
+static void copy(struct answers *to)
+{
+    const uint64_t medium = to->set.medium;
+    const struct bytes r = to->set.r, x = to->set.x;
+    uint8_t values[SPS_VALUES_LEN], line[SPS_LINE_LEN];
+    to->read_point = sps_read_point(medium, SPS_KIND_R, r.at, r.len, last_line(medium, r), values,
+                                    sizeof values);
+    to->write_point = sps_write_point(SPS_KIND_R, values, sizeof values, line, sizeof line);
+    to->read_relation =
+        sps_read_relation(medium, x.at, x.len, last_line(medium, x), values, sizeof values);
+    to->write_relation = sps_write_relation(values, sizeof values, line, sizeof line);
+}
 
 static void *ask(void *lent)
 {
@@ -35,6 +55,7 @@ static void *ask(void *lent)
                             sizeof components);
     to->table_line =
         sps_table_line(FILES(to->set), SPS_RECEIVER_CODE, (const uint8_t *)"G1", 2);
+    copy(to);
     return NULL;
 }
 
@@ -55,11 +76,14 @@ int main(int count, char **words)
         fprintf(stderr, "no thread of %d bytes of stack\n", STACK);
         return 2;
     }
-    printf("%llu %llu %llu %llu %llu %llu %llu %llu %llu\n", (unsigned long long)to.r,
+    printf("%llu %llu %llu %llu %llu %llu %llu %llu %llu", (unsigned long long)to.r,
            (unsigned long long)to.s, (unsigned long long)to.x, (unsigned long long)to.cross,
            (unsigned long long)to.counts, (unsigned long long)to.trace,
            (unsigned long long)to.channel, (unsigned long long)to.spread,
            (unsigned long long)to.table_line);
+    printf(" %llu %llu %llu %llu\n", (unsigned long long)to.read_point,
+           (unsigned long long)to.write_point, (unsigned long long)to.read_relation,
+           (unsigned long long)to.write_relation);
     free_set(to.set);
     return 0;
 }

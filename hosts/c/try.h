@@ -6,8 +6,15 @@
 #include <stdint.h>
 #include <stdio.h>
 #include <stdlib.h>
+#include <string.h>
 
 static int failures = 0;
+
+/* The last header line of set A, and the three lines below it. */
+enum { LAST_HEADER = 24, FIRST, SECOND, THIRD };
+
+/* What stands in memory that is lent to be written. */
+enum { STAYS = 0xAA };
 
 /* Says where a number is not the expected one. */
 #define SAME(found, expected) same((found), (expected), #found, __LINE__)
@@ -32,6 +39,12 @@ struct bytes {
     uint8_t *at;
     size_t len;
 };
+
+/* Text over the columns of a line on disc, from 1. */
+static inline void put(struct bytes file, size_t line, size_t column, const char *text)
+{
+    memcpy(file.at + (line - 1) * 82 + column - 1, text, strlen(text));
+}
 
 /* The form of a file as a kind. */
 static inline uint64_t form(uint64_t medium, uint64_t kind, struct bytes file)

@@ -22,7 +22,7 @@ OF_1, OF_G1, OF_V1, FIRST, SECOND, THIRD = 22, 23, 24, 25, 26, 27
 
 
 def library(path):
-    """The seven calls with their types."""
+    """The eleven calls with their types."""
     sps = ctypes.CDLL(path)
     types = {
         "sps_form": [U64, U64, ctypes.c_char_p, SIZE],
@@ -32,6 +32,10 @@ def library(path):
         "sps_channel": FILES + RECORD + [U64, U64],
         "sps_spread": FILES + RECORD + BYTES + BYTES,
         "sps_table_line": FILES + [U64, ctypes.c_char_p, SIZE],
+        "sps_read_point": [U64, U64, ctypes.c_char_p, SIZE, U64] + BYTES,
+        "sps_read_relation": [U64, ctypes.c_char_p, SIZE, U64] + BYTES,
+        "sps_write_point": [U64, ctypes.c_char_p, SIZE] + BYTES,
+        "sps_write_relation": [ctypes.c_char_p, SIZE] + BYTES,
     }
     for name, arguments in types.items():
         call = getattr(sps, name)
@@ -139,6 +143,58 @@ def refusals(sps, set_a, last):
     assert bytes(components) == bytes([238] * 3)
 
 
+def text(name):
+    """Bytes as one number, or as two of eight, the high byte first."""
+    return [int.from_bytes(name[at : at + 8], "big") for at in range(0, len(name), 8)]
+
+
+def lines(sps, set_a, disc):
+    """A receiver and the relation line of set A, read on a medium, changed, and written on disc."""
+    medium, r, r_len, _, _, x, x_len = set_a
+    absent, name = -(2**63), text(b"L1".ljust(16))
+    values, line = (ctypes.c_uint8 * 129)(*[170] * 129), (ctypes.c_uint8 * 83)(*[170] * 83)
+    assert sps.sps_read_point(medium, ord("R"), r, r_len, FIRST, values, 129) == 0
+    point = [*name, 101, 1, *text(b"G1"), 0, absent, 0, 0, absent, absent, 0, 0, 0, 113, 71245]
+    assert bytes(values) == struct.pack("<16qB", *point, 170)
+    assert sps.sps_write_point(ord("R"), struct.pack("<16q", *point), 128, line, 83) == 0
+    first = slice((FIRST - 1) * 82, FIRST * 82)
+    assert bytes(line) == disc[1][first] + bytes([170])
+    point[13] = -5
+    assert sps.sps_write_point(ord("R"), struct.pack("<16q", *point), 128, line, 83) == 0
+    assert bytes(line)[65:71] == b"  -0.5"
+
+    assert sps.sps_read_relation(medium, x, x_len, FIRST, values, 128) == 0
+    relation = [*text(b"100   "), 11, 1, 1, *name, 501, 1, 1, 3, 1, *name, 101, 103, 1]
+    assert bytes(values) == struct.pack("<16qB", *relation, 170)
+    assert sps.sps_write_relation(struct.pack("<16q", *relation), 128, line, 83) == 0
+    assert bytes(line) == disc[5][first] + bytes([170])
+
+
+def refused_lines(sps, set_a):
+    """Lines that are not read, values that are not written, and what that leaves."""
+    medium, r, r_len, _, _, x, x_len = set_a
+    stays = (ctypes.c_uint8 * 128)(*[170] * 128)
+    no_lines = (0, FIRST - 1, THIRD + 1, 2**32 + FIRST)
+    asked = [(medium, ord("R"), r, r_len, line) for line in no_lines]
+    asked += [(medium, letter, r, r_len, FIRST) for letter in (0, ord("X"), 256 + ord("R"))]
+    for question in asked + [(0, ord("R"), r, r_len, FIRST), (medium, ord("R"), None, 0, 1)]:
+        assert sps.sps_read_point(*question, stays, 128) == refusal(20, 0, 0, 0)
+    of_r = [medium, ord("S"), r, r_len, FIRST]
+    assert sps.sps_read_point(*of_r, stays, 128) == refusal(4, 2, FIRST, 1)
+    assert sps.sps_read_relation(medium, x, x_len, FIRST + 1, stays, 128) == refusal(20, 0, 0, 0)
+
+    values = (ctypes.c_uint8 * 128)()
+    assert sps.sps_read_relation(medium, x, x_len, FIRST, values, 128) == 0
+    values = bytes(values)
+    apart = values[:72] + struct.pack("<q", 4) + values[80:]
+    assert sps.sps_write_relation(values, 128, stays, 81) == refusal(23, 0, 0, 0)
+    assert sps.sps_write_relation(values, 127, stays, 82) == refusal(22, 0, 0, 0)
+    assert sps.sps_write_relation(apart, 128, stays, 81) == refusal(22, 0, 0, 0)
+    assert sps.sps_write_point(ord("R"), values, 128, stays, 82) == refusal(22, 0, 0, 0)
+    assert sps.sps_write_point(ord("R"), None, 0, None, 0) == refusal(22, 0, 0, 0)
+    assert bytes(stays) == bytes([170] * 128)
+
+
 def main():
     shared, disc, tape, with_killed = sys.argv[1:]
     sps = library(shared)
@@ -146,6 +202,8 @@ def main():
         forms(sps, set_a)
         answers(sps, set_a)
         refusals(sps, set_a, last)
+        lines(sps, set_a, files(DISC, disc))
+        refused_lines(sps, set_a)
     killed(sps, files(DISC, with_killed))
 
 
