@@ -48,6 +48,7 @@ pub mod Counts
 pub mod Turns
 pub mod Spreads
 pub mod OneFile
+pub mod OneLine
 pub mod Tables
 pub mod ListedSizes
 pub mod Listed

@@ -1,6 +1,9 @@
 -- Every refusal of a set is from the published list, whatever its medium.
 --   Only P p       = each refusal that the plan can give is such, where what is looked for before it is met
 --   rules-listed   = the refusals of the cross-check are listed
+--   kind-listed    = those of the form of one file
+--   line-listed    = those of one line
+--   written-listed = those of a line that is written
 use Prim.Native.Nat.{ℕ, zero, suc, _+_, _*_, _≤_, _<_, min}
 use native.Mathlib.Omega.{arith}
 use mathlib.Core.Path.{_≡_, refl, sym, ap, _∙_, subst}
@@ -22,6 +25,7 @@ use Rattle.rules.specs.Headers.{rule7, rule8, sameColumns, rule9}
 use Rattle.rules.specs.Codes.{rule24, rule25, codesFit}
 use Rattle.rules.specs.Order.{rule10, rule11, rule12, rule13, rule14, rule15, rule16, rule17, rule18, rule19}
 use Rattle.rules.specs.Check.{relationFits, rules}
+use Rattle.rules.specs.Writer.{writes}
 use Rattle.rules.specs.Listed.{Entry, row, begins, published, oneOfFiles, inSpan, inSpans, standsIn, isListed, Listed}
 use Rattle.rules.proofs.Tests.{clash, and-is, or-is, leb-is}
 use Rattle.rules.proofs.Breach.{Met, Broken, run-broken}
@@ -89,37 +93,88 @@ stray-few t c (b ∷ bs) h = go (t c b) (strayFrom t (suc c) bs) (stray-few t (s
     go true m l = omega arith
     go false m l = omega arith
 
+-- file i, with the columns of its tables
+record Kind (i : ℕ) : Type 0 where
+  columns : List Span
+  own : oneOfFiles i (fileR ∷ fileS ∷ fileX ∷ []) ≡ true
+  five : (l c : ℕ) → 1 ≤ l → l ≤ 9999 → inSpans c columns ≡ true → Listed (№ 5 i l c)
+  heads : beginsIn columns (headerRows sps93) ≡ true
+  points : (eqb i fileX ≡ true → ⊥) → beginsIn columns (pointRows sps93 i) ≡ true
+  relations : eqb i fileX ≡ true → beginsIn columns (relationRows sps93) ≡ true
+
+of-points : (i : ℕ) → (i ≡ fileR) ⊎ (i ≡ fileS) → Kind i
+unfolding published begins headerRows pointRows sps93 oneOfFiles inSpans inSpan
+of-points i (inl e) =
+    rw e
+    (record {
+      columns = entry published 4 .columns;
+      own = refl;
+      five = λ l c a b d. listed-at fileR l c 4 refl a b d;
+      heads = refl;
+      points = λ _. refl;
+      relations = λ t. clash t;
+    })
+of-points i (inr e) =
+    rw e
+    (record {
+      columns = entry published 4 .columns;
+      own = refl;
+      five = λ l c a b d. listed-at fileS l c 4 refl a b d;
+      heads = refl;
+      points = λ _. refl;
+      relations = λ t. clash t;
+    })
+
+of-relations : Kind fileX
+unfolding published begins headerRows relationRows sps93 oneOfFiles inSpans inSpan
+of-relations =
+    record {
+      columns = entry published 5 .columns;
+      own = refl;
+      five = λ l c a b d. listed-at fileX l c 5 refl a b d;
+      heads = refl;
+      points = λ n. absurd (n refl);
+      relations = λ _. refl;
+    }
+
+kind : (i : ℕ) → (i ≡ fileR) ⊎ ((i ≡ fileS) ⊎ (i ≡ fileX)) → Kind i
+kind i (inl e) = of-points i (inl e)
+kind i (inr (inl e)) = of-points i (inr e)
+kind i (inr (inr e)) = rw e of-relations
+
 module _ (M : Medium) (g : Lawful M) where
   abbrev file : List ℕ → Sheet
   file = sheet M sps93
 
-  -- the form of file i, whose columns of 5 are cs
-  module _ (i : ℕ) (cs : List Span) (own : oneOfFiles i (fileR ∷ fileS ∷ fileX ∷ []) ≡ true)
-      (five : (l c : ℕ) → 1 ≤ l → l ≤ 9999 → inSpans c cs ≡ true → Listed (№ 5 i l c))
-      (heads : beginsIn cs (headerRows sps93) ≡ true)
-      (points : (eqb i fileX ≡ true → ⊥) → beginsIn cs (pointRows sps93 i) ≡ true)
-      (relations : eqb i fileX ≡ true → beginsIn cs (relationRows sps93) ≡ true) where
+  -- the form of file i
+  module _ (i : ℕ) (of : Kind i) where
+    abbrev cs : List Span
+    cs = of .columns
+
+    abbrev own : oneOfFiles i (fileR ∷ fileS ∷ fileX ∷ []) ≡ true
+    own = of .own
+
     module _ (k : ℕ) (line : k + 1 ≤ 9999) where
       fields-listed : (marker : Bool) (l : List ℕ) (ws : List Row) → beginsIn cs ws ≡ true → Only Listed (fieldsFit i k marker l ws)
       unfolding fieldsFit
       fields-listed marker l [] e = tt
       fields-listed marker l (w ∷ ws) e =
           let b = and-is (inSpans (w .columns .first) cs) (beginsIn cs ws) .0 e in
-          ((λ _ _. five (k + 1) (w .columns .first) (omega arith) line (b .0)), λ _. fields-listed marker l ws (b .1))
+          ((λ _ _. of .five (k + 1) (w .columns .first) (omega arith) line (b .0)), λ _. fields-listed marker l ws (b .1))
 
       rule5-listed : (l : List ℕ) → Only Listed (rule5 i sps93 k l)
       unfolding rule5
       rule5-listed l = (
-        (λ _. fields-listed false l _ heads),
+        (λ _. fields-listed false l _ (of .heads)),
         λ _. (
-          (λ t. fields-listed _ l _ (points (λ e. clash (sym (ap not e) ∙ and-is (not (isHeader l)) (not (eqb i fileX)) .0 t .1)))),
-          λ _ t. fields-listed false l _ (relations (and-is (not (isHeader l)) (eqb i fileX) .0 t .1)),
+          (λ t. fields-listed _ l _ (of .points (λ e. clash (sym (ap not e) ∙ and-is (not (isHeader l)) (not (eqb i fileX)) .0 t .1)))),
+          λ _ t. fields-listed false l _ (of .relations (and-is (not (isHeader l)) (eqb i fileX) .0 t .1)),
         ),
       )
 
-      line-listed : (f : List ℕ) → Only Listed (lineFits i (file f) k)
+      fits-listed : (f : List ℕ) → Only Listed (lineFits i (file f) k)
       unfolding lineFits rule3 rule4 rule6 stray sheet sps93 published oneOfFiles inSpans inSpan
-      line-listed f =
+      fits-listed f =
           let n = length-take (M .stride) (drop (M .stride * k) f) in
           let wide = g .wide in
           let c = strayFrom (M .takes) 1 (take (M .stride) (drop (M .stride * k) f)) in
@@ -148,7 +203,7 @@ module _ (M : Medium) (g : Lawful M) where
         λ m.
             let n = leb-is (allLines (file f)) 9999 .0 m in (
               (λ _. listed-at i (min (ending (file f) + 2) (allLines (file f) + 1)) 0 25 own (omega arith) (omega arith) refl),
-              λ _ k o. line-listed k (omega arith) f,
+              λ _ k o. fits-listed k (omega arith) f,
             ),
       ),
     )
@@ -199,26 +254,12 @@ module _ (M : Medium) (g : Lawful M) where
     ),
   )
 
-  -- the form of each file, with the columns of its tables
-  module _ (f : List ℕ) where
-    points-listed : (i : ℕ) → (i ≡ fileR) ⊎ (i ≡ fileS) → Only Listed (form i (file f))
-    unfolding published begins headerRows pointRows sps93 oneOfFiles inSpans inSpan
-    points-listed i (inl e) =
-        rw e
-        (form-listed fileR (entry published 4 .columns) refl (λ l c a b d. listed-at fileR l c 4 refl a b d) refl (λ _. refl) (λ t. clash t) f)
-    points-listed i (inr e) =
-        rw e
-        (form-listed fileS (entry published 4 .columns) refl (λ l c a b d. listed-at fileS l c 4 refl a b d) refl (λ _. refl) (λ t. clash t) f)
+  -- the form of each file, and one line of it
+  pub kind-listed : (f : List ℕ) (i : ℕ) → (i ≡ fileR) ⊎ ((i ≡ fileS) ⊎ (i ≡ fileX)) → Only Listed (form i (file f))
+  kind-listed f i w = form-listed i (kind i w) f
 
-    relations-listed : Only Listed (form fileX (file f))
-    unfolding published begins headerRows relationRows sps93 oneOfFiles inSpans inSpan
-    relations-listed =
-        form-listed fileX (entry published 5 .columns) refl (λ l c a b d. listed-at fileX l c 5 refl a b d) refl (λ n. absurd (n refl)) (λ _. refl) f
-
-    pub kind-listed : (i : ℕ) → (i ≡ fileR) ⊎ ((i ≡ fileS) ⊎ (i ≡ fileX)) → Only Listed (form i (file f))
-    kind-listed i (inl e) = points-listed i (inl e)
-    kind-listed i (inr (inl e)) = points-listed i (inr e)
-    kind-listed i (inr (inr e)) = rw e relations-listed
+  pub line-listed : (f : List ℕ) (i : ℕ) → (i ≡ fileR) ⊎ ((i ≡ fileS) ⊎ (i ≡ fileX)) → (k : ℕ) → k + 1 ≤ 9999 → Only Listed (lineFits i (file f) k)
+  line-listed f i w k h = fits-listed i (kind i w) k h f
 
   -- the code tables
   codes-listed : (r s x : List ℕ) → file r .count ≤ 9999 → file s .count ≤ 9999 → file x .count ≤ 9999
@@ -239,11 +280,11 @@ module _ (M : Medium) (g : Lawful M) where
   pub rules-listed : (r s x : List ℕ) → Only Listed (rules (file r) (file s) (file x))
   unfolding rules rule7 rule8 rule10 rule11 rule12 rule15 sheet sps93 published oneOfFiles inSpans inSpan
   rules-listed r s x = (
-    points-listed r fileR (inl refl),
+    kind-listed r fileR (inl refl),
     λ mr. (
-      points-listed s fileS (inr refl),
+      kind-listed s fileS (inr (inl refl)),
       λ ms. (
-        relations-listed x,
+        kind-listed x fileX (inr (inr refl)),
         λ mx.
             let a = lines-few 1 r mr in
             let b = lines-few 2 s ms in
@@ -288,3 +329,11 @@ asked-listed = listed-at 0 0 0 20 refl (omega arith) (omega arith) refl
 pub room-listed : Listed (№ 21 0 0 0)
 unfolding published oneOfFiles inSpans inSpan
 room-listed = listed-at 0 0 0 21 refl (omega arith) (omega arith) refl
+
+-- 22 and 23
+pub written-listed : (ok : Bool) (n : ℕ) → Only Listed (writes ok n)
+unfolding writes published oneOfFiles inSpans inSpan
+written-listed ok n = (
+  (λ _. listed-at 0 0 0 26 refl (omega arith) (omega arith) refl),
+  λ _ _. listed-at 0 0 0 27 refl (omega arith) (omega arith) refl,
+)

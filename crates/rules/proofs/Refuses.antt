@@ -55,7 +55,7 @@ module _ (i : ℕ) (f : Sheet) where
       let b = rule6-breaks _ k _ w in
       (λ y. let v = b .0 (y .1) in (v .0, (d .0 (y .0), v .1), v .2), λ y. (d .1 (y .1 .0), b .1 (y .0, y .1 .1, y .2)))
 
-  line-same : (k : ℕ) → Same (lineFits i f k) (lineOrder i f k)
+  pub line-same : (k : ℕ) → Same (lineFits i f k) (lineOrder i f k)
   unfolding lineFits six
   line-same k =
       same-then (same-look (rule3-is i f k) (rule3-breaks i f k))

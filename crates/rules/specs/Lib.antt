@@ -46,3 +46,4 @@ pub mod Meets
 pub mod Refuses
 pub mod Listed
 pub mod MeetsQuestions
+pub mod MeetsLine

@@ -2,7 +2,7 @@
 --   row n fs ls cs    = number n stands in one of the files fs, one of the lines ls and one of the columns cs
 --   only c            = column c
 --   begins ws         = the first columns of a table's fields
---   published         = the rows 1 to 21, 24, 25 and 29
+--   published         = the rows 1 to 21, 24, 25 and 29 of files and questions, then 22 and 23 of a line that is written
 --   Listed w          = w is from the list
 use Prim.Native.Nat.{ℕ, _+_}
 use mathlib.Core.Path.{_≡_}
@@ -56,7 +56,9 @@ published =
     ∷ row 24 (fileR ∷ []) (1 to 9999) (only 33)
     ∷ row 25 (fileR ∷ fileS ∷ []) (1 to 9999) (only 27)
     ∷ row 25 (fileX ∷ []) (1 to 9999) (only 13)
-    ∷ row 29 (fileR ∷ fileS ∷ fileX ∷ []) (1 to 10000) (only 0) ∷ []
+    ∷ row 29 (fileR ∷ fileS ∷ fileX ∷ []) (1 to 10000) (only 0)
+    ∷ row 22 (0 ∷ []) (0 to 0) (only 0)
+    ∷ row 23 (0 ∷ []) (0 to 0) (only 0) ∷ []
 
 unfoldable pub oneOfFiles : ℕ → List ℕ → Bool
 oneOfFiles f [] = false
