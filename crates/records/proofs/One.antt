@@ -45,6 +45,8 @@ use Rattle.records.proofs.fits.rule6 as rule6
 use Rattle.records.proofs.fits.rule6.Reads as rule6-reads
 use Rattle.records.proofs.state.state_in as state-in
 use Rattle.records.proofs.state.state_in.Reads as state-in-reads
+use Rattle.records.proofs.state.state_of as state-of
+use Rattle.records.proofs.state.state_of.Reads as state-of-reads
 use Rattle.records.proofs.point.point_of as point-of
 use Rattle.records.proofs.point.point_of.Reads as point-of-reads
 use Rattle.records.proofs.relation.number_at as number-at
@@ -148,3 +150,6 @@ meets-one κs a v v′ w w′ p p′ =
 
 pub state-in-one : One state-in.ended state-in-reads.Post
 state-in-one κs a v v′ w w′ = alike
+
+pub state-of-one : One state-of.ended state-of-reads.Post
+state-of-one κs a v v′ w w′ = alike

@@ -1,18 +1,23 @@
 -- The state of a point, from the letters of a line's own bytes.
 --   code-other, code-here          = two letters in columns 27-28
+--   number-code                    = two letters that are one number, the high one first
 --   is-marker .. is-live           = the state that they say
 --   marker-told, dead-told         = what a state says of a marker, and of a killed point
-use Prim.Native.Nat.{ℕ}
+use Prim.Native.Nat.{ℕ, _+_, _*_, _/_, _%_, _<_}
+use native.Mathlib.Omega.{arith}
 use mathlib.Core.Path.{_≡_, refl, sym, ap, ap₂, _∙_}
 use mathlib.Core.Bool.{Bool, true, false, _&&_, and-true}
 use mathlib.Core.List.{List, [], _∷_}
 use lib.Dec.{eqb, lit≤}
 use lib.ListN.{getD}
+use borrow.Author.Tests.{eqb-true, eq-eqb}
 use Rattle.rules.specs.Places.{pick}
 use Rattle.rules.specs.Text.{same, bytes}
 use Rattle.rules.specs.Names.{ranked}
 use Rattle.rules.specs.Layout.{sps93, at}
 use Rattle.rules.specs.Points.{State as PaperState, live, killed, marker, isDead, stateOf}
+use Rattle.rules.specs.Carried.{bytesOf}
+use Rattle.rules.proofs.Tests.{agree, and-is}
 use Rattle.rules.proofs.Medium.{ranked-column}
 use Rattle.fields.proofs.Codes.{two-columns}
 use Rattle.records.specs.Coded.{codedState}
@@ -33,6 +38,23 @@ module _ (g : ℕ → ℕ) (z : g 0 ≡ 0) (l : List ℕ) (a b : ℕ) where
 
     pub code-here : t ≡ true → (u : Bool) → u ≡ eqb (g (getD l 27 0)) b → u ≡ same (at (ranked g l) (sps93 .code)) (a ∷ b ∷ [])
     code-here y u f = f ∙ sym (code-is ∙ ap (λ (c : Bool). c && eqb (g (getD l 27 0)) b) (sym e ∙ y))
+
+-- a code that is one number
+pair-is : (a b c n : ℕ) → b < 256 → n ≡ 256 * a + b → eqb c n ≡ (eqb (c / 256) a && (eqb (c % 256) b && true))
+pair-is a b c n h e =
+    agree (eqb c n) (eqb (c / 256) a && (eqb (c % 256) b && true))
+    (λ t.
+    let k = eqb-true c n t in
+    and-is (eqb (c / 256) a) (eqb (c % 256) b && true) .1
+    (eq-eqb (c / 256) a (omega arith), and-is (eqb (c % 256) b) true .1 (eq-eqb (c % 256) b (omega arith), refl)))
+    (λ t.
+    let p = and-is (eqb (c / 256) a) (eqb (c % 256) b && true) .0 t in
+    let q = and-is (eqb (c % 256) b) true .0 (p .1) in
+    eq-eqb c n (omega (arith, eqb-true (c / 256) a (p .0), eqb-true (c % 256) b (q .0))))
+
+pub number-code : (a b c n : ℕ) → b < 256 → n ≡ 256 * a + b → eqb c n ≡ same (bytesOf 2 c) (a ∷ b ∷ [])
+unfolding same bytesOf
+number-code a b c n h e = pair-is a b c n h e
 
 -- a code of two bytes
 module _ (c : List ℕ) (t : Bool) (e : t ≡ same c (80 ∷ 77 ∷ [])) where

@@ -6,6 +6,7 @@ ghost use Rattle.rules.specs.Text.{same};
 ghost use Rattle.rules.specs.Layout.{sps93, at};
 ghost use Rattle.rules.specs.Names.{ranked};
 ghost use Rattle.rules.specs.Points.{stateOf};
+ghost use Rattle.rules.specs.Carried.{bytesOf};
 ghost use Rattle.lines.specs.Reading.{mediumOf};
 ghost use Rattle.records.specs.Coded.{codedState};
 use lines::Reading;
@@ -35,6 +36,24 @@ pub fn state_in(how: Reading, l: &[u8; 80]) -> State
         return State::Marker;
     }
     if has_code(how, l, b'K', b'L') {
+        return State::Killed;
+    }
+    State::Live
+}
+
+// PM and KL as numbers.
+const MARKER: u64 = 20557;
+
+const KILLED: u64 = 19276;
+
+// The state of a code, whose two bytes are one number, the high one first.
+pub fn state_of(code: u64) -> State
+    ensures value { λ s. ⌜ s ≡ codedState (stateOf (bytesOf 2 code)) ⌝ }
+{
+    if code == MARKER {
+        return State::Marker;
+    }
+    if code == KILLED {
         return State::Killed;
     }
     State::Live
