@@ -26,74 +26,23 @@ use Rattle.records.specs.declared.state.State.{State}
 use Rattle.records.specs.declared.state.State.the-variants.{Live, Killed, Marker}
 use Rattle.records.specs.declared.relation.Reach.{Reach}
 use Rattle.records.specs.declared.relation.Relation.{Relation}
+use Rattle.records.specs.Coded.{codedState}
 use Rattle.records.proofs.Reaches.{paperReach}
 use Rattle.texts.specs.Buffer.{Adds}
 use Rattle.rules.specs.Carried.{bytesOf}
 use Rattle.writer.specs.Coded.{textOf, stateIn, pointOf, reachOf, relationOf}
 use Rattle.writer.proofs.Spelling.{text-short}
 
-pair-is : (a b c n : ℕ) → b < 256 → n ≡ 256 * a + b → (eqb (c / 256) a && (eqb (c % 256) b && true)) ≡ eqb c n
-pair-is a b c n h e =
-    agree (eqb (c / 256) a && (eqb (c % 256) b && true)) (eqb c n)
-    (λ t.
-    let p = and-is (eqb (c / 256) a) (eqb (c % 256) b && true) .0 t in
-    let q = and-is (eqb (c % 256) b) true .0 (p .1) in
-    eq-eqb c n (omega (arith, eqb-true (c / 256) a (p .0), eqb-true (c % 256) b (q .0))))
-    (λ t.
-    let k = eqb-true c n t in
-    and-is (eqb (c / 256) a) (eqb (c % 256) b && true) .1
-    (eq-eqb (c / 256) a (omega arith), and-is (eqb (c % 256) b) true .1 (eq-eqb (c % 256) b (omega arith), refl)))
+-- the state of a code
+back : (p : PaperState) → p ≡ stateIn (codedState p)
+back live = refl
+back killed = refl
+back marker = refl
 
-letters : (c : ℕ) → textOf 2 0 c ≡ c / 256 ∷ c % 256 ∷ []
-unfolding bytesOf
-letters c = text-short 2 0 c (omega arith)
-
-abbrev told : ℕ → PaperState
-told c = pick (eqb c 20557) marker (pick (eqb c 19276) killed live)
-
-state-is : (c : ℕ) → stateOf (textOf 2 0 c) ≡ told c
-unfolding stateOf same bytes
-state-is c =
-    ap stateOf (letters c)
-    ∙ ap₂ (λ (m k : Bool). pick m marker (pick k killed live)) (pair-is 80 77 c 20557 (omega arith) (omega arith))
-    (pair-is 75 76 c 19276 (omega arith) (omega arith))
-
-module _ (c : ℕ) (s : State) where
-  agreed : sameState (told c) (stateIn s) ≡ sameState (stateOf (textOf 2 0 c)) (stateIn s)
-  agreed = ap (λ (p : PaperState). sameState p (stateIn s)) (sym (state-is c))
-
-  pub agrees-marker : c ≡ 20557 → false ≡ sameState (stateOf (textOf 2 0 c)) (stateIn s)
-  unfolding pick
-  agrees-marker e = (rw (eq-eqb c 20557 e)) ∙ agreed
-
-  module _ (n : c ≡ 20557 → ⊥) where
-    other : sameState (pick (eqb c 19276) killed live) (stateIn s) ≡ sameState (stateOf (textOf 2 0 c)) (stateIn s)
-    unfolding pick
-    other = (rw (ne-eqb c 20557 n)) ∙ agreed
-
-    pub agrees-live : s ≡ Live → not (eqb c 19276) ≡ sameState (stateOf (textOf 2 0 c)) (stateIn s)
-    unfolding pick
-    agrees-live e = go (eqb c 19276) ∙ ap (λ (u : State). sameState (pick (eqb c 19276) killed live) (stateIn u)) (sym e) ∙ other
-      where
-        go : (t : Bool) → not t ≡ sameState (pick t killed live) live
-        go true = refl
-        go false = refl
-
-    pub agrees-killed : s ≡ Killed → eqb c 19276 ≡ sameState (stateOf (textOf 2 0 c)) (stateIn s)
-    unfolding pick
-    agrees-killed e = go (eqb c 19276) ∙ ap (λ (u : State). sameState (pick (eqb c 19276) killed live) (stateIn u)) (sym e) ∙ other
-      where
-        go : (t : Bool) → t ≡ sameState (pick t killed live) killed
-        go true = refl
-        go false = refl
-
-    pub agrees-never : s ≡ Marker → false ≡ sameState (stateOf (textOf 2 0 c)) (stateIn s)
-    unfolding pick
-    agrees-never e = go (eqb c 19276) ∙ ap (λ (u : State). sameState (pick (eqb c 19276) killed live) (stateIn u)) (sym e) ∙ other
-      where
-        go : (t : Bool) → false ≡ sameState (pick t killed live) marker
-        go true = refl
-        go false = refl
+pub agrees-is : (c : ℕ) (v s : State) → v ≡ codedState (stateOf (bytesOf 2 c)) → sameState (stateIn v) (stateIn s) ≡ sameState (stateOf (textOf 2 0 c)) (stateIn s)
+agrees-is c v s e =
+    let p : stateOf (textOf 2 0 c) ≡ stateIn v = ap stateOf (text-short 2 0 c (omega arith)) ∙ back _ ∙ ap stateIn (sym e) in
+    ap (λ (u : PaperState). sameState u (stateIn s)) (sym p)
 
 -- 6 of the values
 six-same : (q : Reach) → run (rule6 sps93 0 (paperReach q)) ≡ run (rule6 sps93 0 (reachOf q))

@@ -18,6 +18,7 @@ use records::fits;
 use records::point::Point;
 use records::relation::Reach;
 use records::relation::Relation;
+use records::state;
 use records::state::State;
 use records::table::Table;
 
@@ -29,23 +30,30 @@ mod signs;
 mod spell;
 mod values;
 
-// The codes PM and KL as numbers.
-const MARKER: u64 = 20557;
-
-const KILLED: u64 = 19276;
+// Both states are the same, and no marker's.
+fn same_state(a: State, b: State) -> bool
+    ensures value { λ t. ⌜ t ≡ sameState (stateIn a) (stateIn b) ⌝ }
+{
+    match a {
+        State::Live => match b {
+            State::Live => true,
+            State::Killed => false,
+            State::Marker => false,
+        },
+        State::Killed => match b {
+            State::Live => false,
+            State::Killed => true,
+            State::Marker => false,
+        },
+        State::Marker => false,
+    }
+}
 
 // The state is that of the code, and no marker's.
 fn agrees(code: u64, s: State) -> bool
     ensures value { λ t. ⌜ t ≡ sameState (stateOf (textOf 2 0 code)) (stateIn s) ⌝ }
 {
-    if code == MARKER {
-        return false;
-    }
-    match s {
-        State::Live => code != KILLED,
-        State::Killed => code == KILLED,
-        State::Marker => false,
-    }
+    same_state(state::state_of(code), s)
 }
 
 // 6 of a relation's values.
