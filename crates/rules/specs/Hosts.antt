@@ -2,8 +2,9 @@
 --   packed w       = a refusal as number * 2^40 + file * 2^32 + line * 256 + column
 --   hostNumber a   = an answer as that number; 0 where there is none, and of a file that is well formed
 --   hostVerdict v  = a verdict as that number; 0 where it is fine
+--   lowBytes n v   = the n low bytes of a number, low byte first
 --   numbersOf b    = the 16-bit numbers of a byte slice, low byte first; a last odd byte is no place
-use Prim.Native.Nat.{ℕ, _+_, _*_, _^_}
+use Prim.Native.Nat.{ℕ, zero, suc, _+_, _*_, _/_, _%_, _^_}
 use mathlib.Core.List.{List, [], _∷_}
 use Rattle.rules.specs.Places.{pick}
 use Rattle.rules.specs.Plan.{Refusal, №, Verdict, fine, refused}
@@ -25,6 +26,10 @@ hostNumber formed = 0
 unfoldable pub hostVerdict : Verdict → ℕ
 hostVerdict fine = 0
 hostVerdict (refused w) = packed w
+
+unfoldable pub lowBytes : ℕ → ℕ → List ℕ
+lowBytes zero v = []
+lowBytes (suc n) v = (v % 256) ∷ lowBytes n (v / 256)
 
 unfoldable pub numbersOf : List ℕ → List ℕ
 numbersOf [] = []

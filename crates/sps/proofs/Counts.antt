@@ -27,7 +27,9 @@ use Rattle.rules.proofs.Which.{how-many, how-much}
 use Rattle.rules.proofs.Counts.{accepted-is}
 use Rattle.rules.proofs.Medium.{Lawful}
 use Rattle.rules.proofs.Hosts.{Sized, cross-sized}
-use Rattle.sps.specs.Counts.{lowBytes, placed, counted}
+use Rattle.sets.proofs.Verdicts.{last-two}
+use Rattle.rules.specs.Hosts.{lowBytes}
+use Rattle.sps.specs.Counts.{placed, counted}
 use Rattle.sps.specs.Said.{valueOf, readAt}
 use Rattle.sps.proofs.Placed.{or-less, low-length, placed-whole, placed-short, placed-none, placed-length}
 
@@ -52,14 +54,14 @@ after-first i v vs o h =
     let rest = placed vs (drop 8 o) in
     rw (n, placed-whole v vs o h, ← drop-drop (8 * i) 8 (lowBytes 8 v ++ rest), drop-at (lowBytes 8 v) rest 8 (low-length 8 v))
 
-placed-at : (i : ℕ) (vs o : List ℕ) → i < length vs → 8 * i + 8 ≤ length o → take 8 (drop (8 * i) (placed vs o)) ≡ lowBytes 8 (getD vs i 0)
+pub placed-at : (i : ℕ) (vs o : List ℕ) → i < length vs → 8 * i + 8 ≤ length o → take 8 (drop (8 * i) (placed vs o)) ≡ lowBytes 8 (getD vs i 0)
 placed-at i [] o h l = absurd (omega arith)
 placed-at zero (v ∷ vs) o h l =
     rw (placed-whole v vs o (omega arith), take-at (lowBytes 8 v) (placed vs (drop 8 o)) 8 (low-length 8 v))
 placed-at (suc i) (v ∷ vs) o h l =
     rw (after-first i v vs o (omega arith)) (placed-at i vs (drop 8 o) (omega arith) (simp length-drop (omega arith)))
 
-placed-beyond : (i : ℕ) (vs o : List ℕ) → (i < length vs → length o < 8 * i + 8) → drop (8 * i) (placed vs o) ≡ drop (8 * i) o
+pub placed-beyond : (i : ℕ) (vs o : List ℕ) → (i < length vs → length o < 8 * i + 8) → drop (8 * i) (placed vs o) ≡ drop (8 * i) o
 placed-beyond i [] o h = ap (drop (8 * i)) (placed-none o)
 placed-beyond zero (v ∷ vs) o h = placed-short (v ∷ vs) o (h (omega arith))
 placed-beyond (suc i) (v ∷ vs) o h =
@@ -127,16 +129,6 @@ sum-le (suc n) g h f =
 dead-few : (r x : Sheet) → deadTraces r x ≤ allTraces x
 unfolding deadTraces allTraces deadOf
 dead-few r x = sum-le (x .count) _ _ (λ k. pick-le (isData x k) _ (traces (reachAt x k)) (count-few (traces (reachAt x k)) _))
-
--- the last two counts of an accepted set
-last-two : (r s x : Sheet) (n m k t d : ℕ) → cross r s x ≡ accepted n m k t d → (t ≡ allTraces x) × (d ≡ deadTraces r x)
-unfolding cross answer
-last-two r s x n m k t d = go (verdict r s x)
-  where
-    go : (v : Verdict) → answer v (accepted (points r) (points s) (relations x) (allTraces x) (deadTraces r x)) ≡ accepted n m k t d
-        → (t ≡ allTraces x) × (d ≡ deadTraces r x)
-    go fine e = ((cc), (cc))
-    go (refused w) e = absurd (let z : _≡_ {A = ℕ} 0 1 = cc in omega arith)
 
 module _ (M : Medium) (g : Lawful M) (r s x : List ℕ) where
   abbrev file : List ℕ → Sheet

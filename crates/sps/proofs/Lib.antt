@@ -7,4 +7,5 @@ pub mod Read
 pub mod Written
 pub mod Whole
 pub mod Demands
-pub mod LineDemands
+pub mod WriteDemands
+pub mod ReadDemands

@@ -15,7 +15,8 @@ use lib.ListN.{length, getD, take, drop, set, length-append, length-drop, take-a
 use lib.Seq.{take-suc-set, drop-set-lt, drop-cons, drop-drop, drop-length, append-snoc, take-at, drop-at, length-take-le}
 use borrow.Author.Tests.{le-leb, lt-leb, leb-true, leb-false}
 use Rattle.rules.specs.Places.{pick}
-use Rattle.sps.specs.Counts.{lowBytes, placed, placedFrom}
+use Rattle.rules.specs.Hosts.{lowBytes}
+use Rattle.sps.specs.Counts.{placed, placedFrom}
 
 pub or-less {ℓ} : {A : Type ℓ} (a b : ℕ) → (a ≤ b → A) → (b < a → A) → A
 or-less {A = A} a b f g = go (leb a b) refl

@@ -1,19 +1,15 @@
 -- What a host gets of an accepted set beside the number: "To it a slice of wider numbers is a byte slice, low byte first; bytes at its
 -- end too few for a number are no place and stay."
---   lowBytes n v      = the n low bytes of a number, low byte first
 --   placed vs o       = o with numbers in its places of eight bytes, as far as it has whole ones
 --   placedFrom i vs o = the same from place i on
 --   counted a o       = o with the counts of an answer that accepts in its places, else o
-use Prim.Native.Nat.{ℕ, zero, suc, _*_, _/_, _%_}
+use Prim.Native.Nat.{ℕ, _*_}
 use mathlib.Core.List.{List, [], _∷_, _++_}
 use lib.Dec.{leb}
 use lib.ListN.{length, take, drop}
 use Rattle.rules.specs.Places.{pick}
+use Rattle.rules.specs.Hosts.{lowBytes}
 use Rattle.rules.specs.Check.{Answer, accepted, refusal, trace, channel, highest, headerLine, noTrace, formed}
-
-unfoldable pub lowBytes : ℕ → ℕ → List ℕ
-lowBytes zero v = []
-lowBytes (suc n) v = (v % 256) ∷ lowBytes n (v / 256)
 
 unfoldable pub placed : List ℕ → List ℕ → List ℕ
 placed [] o = o

@@ -9,15 +9,21 @@
 --   TellsSpread n a      = n is the number of an answer of the spread table
 --   TellsLine n a        = n is the number of an answer on the code tables
 --   valueOf bs, readAt i o = the number of some bytes, low byte first; of place i, of eight bytes
+--   TellsRead n o s      = n is the number of a line that is read by the order o, and s that of its state
+--   ValuesTold n ps o e  = what stands in the slice of values, o before and e after the call that answers n, of the numbers ps
 --   TellsWritten n ok m  = n is the number of a line that is written, of values that go into it or not, into a slice of m bytes
 --   LineTold n l o e     = what stands in that slice, o before and e after the call that answers n, of the line l
 --   CountsTold v o e     = what stands in the slice of counts, o before and e after the call that answers v
 use Prim.Native.Nat.{ℕ, _+_, _*_, _/_, _%_, _^_, _≤_, _<_}
 use mathlib.Core.Path.{_≡_}
+use mathlib.Core.Logic.{_↔_}
 use mathlib.Core.Bool.{Bool, true, false}
 use mathlib.Core.List.{List, [], _∷_, _++_}
 use lib.ListN.{length, getD, take, drop}
 use Rattle.rules.specs.Places.{pick}
+use Rattle.rules.specs.Plan.{№}
+use Rattle.rules.specs.Hosts.{lowBytes}
+use Rattle.rules.specs.Refuses.{Order, Kept, First}
 use Rattle.lines.specs.declared.Verdict.{Verdict}
 use Rattle.lines.specs.declared.Verdict.the-variants.{Fine, Refused as FormRefused}
 use Rattle.sets.specs.declared.Answer.{Answer as SetAnswer}
@@ -76,6 +82,19 @@ pub record CountsTold (v : SetAnswer) (o e : List ℕ) : Type 0 where
   -- "bytes at its end too few for a number are no place and stay", and so does all after the fifth
   pub others : (i : ℕ) → (i < 5 → length o < 8 * i + 8) → drop (8 * i) e ≡ drop (8 * i) o
   pub unwritten : (i f l c : ℕ) → v ≡ SetRefused i f l c → e ≡ o
+
+-- "20 for a medium, a letter or a line that is not there; 3 to 6 of that line with its place; a marker is answered as such"
+pub record TellsRead (n : ℕ) (o : Order) (s : ℕ) : Type 0 where
+  pub read-when : (n < 2 ^ 40) ↔ Kept o
+  pub state : Kept o → n ≡ s
+  pub refused-when : (i f l c : ℕ) → RefusedAs n i f l c ↔ First o (№ i f l c)
+
+pub record ValuesTold (n : ℕ) (ps o e : List ℕ) : Type 0 where
+  pub size : length e ≡ length o
+  pub written : n < 2 ^ 40 → (i : ℕ) → i < 16 → 8 * i + 8 ≤ length o → take 8 (drop (8 * i) e) ≡ lowBytes 8 (getD ps i 0)
+  -- bytes that are no place, and all after the sixteenth
+  pub others : (i : ℕ) → (i < 16 → length o < 8 * i + 8) → drop (8 * i) e ≡ drop (8 * i) o
+  pub unwritten : 2 ^ 40 ≤ n → e ≡ o
 
 pub record TellsWritten (n : ℕ) (ok : Bool) (m : ℕ) : Type 0 where
   pub done : ok ≡ true → 82 ≤ m → n ≡ 0

@@ -1,4 +1,4 @@
--- The demands of the calls for C hosts on one line, from their contracts.
+-- The demands of the calls for C hosts that write one line, from their contracts.
 use Prim.Native.Nat.{ℕ, _≤_, _<_}
 use native.Mathlib.Omega.{arith}
 use mathlib.Core.Path.{_≡_, refl, sym}
