@@ -7,6 +7,10 @@ ghost use Rattle.texts.specs.Buffer.{over};
 ghost use Rattle.files.specs.Reads.{sizeOf, restOf, next as nextOf, came as cameOf, Follows, path as pathOf, Found};
 use crate::first;
 use libc::PATH_MAX;
+use libc::S_IFIFO;
+use libc::S_IFMT;
+use libc::types::stat;
+use libc::types::timespec;
 
 // What was found of a file: it cannot be opened or read; it is longer than its buffer; or so many bytes of the buffer are its own.
 pub enum Input {
@@ -109,8 +113,47 @@ pub fn path_of(text: &[u8]) -> Path
     }
 }
 
-// Opens a file: a descriptor, or a number below 0.
+// What is told of a file before anyone has asked.
+fn nothing_told() -> stat {
+    let never = timespec {
+        tv_sec: 0,
+        tv_nsec: 0,
+    };
+    stat {
+        st_dev: 0,
+        st_ino: 0,
+        st_nlink: 0,
+        st_mode: 0,
+        st_uid: 0,
+        st_gid: 0,
+        __pad: 0,
+        st_rdev: 0,
+        st_size: 0,
+        st_blksize: 0,
+        st_blocks: 0,
+        st_atim: never,
+        st_mtim: never,
+        st_ctim: never,
+        __unused: [0; 3],
+    }
+}
+
+// Whether a FIFO stands at the path. Opening one waits for somebody who writes.
+fn is_fifo(path: Path) -> bool {
+    let mut bytes = path.bytes;
+    bytes[PATH_MAX - 1] = 0;
+    let mut told = nothing_told();
+    if libc::stat(&bytes, &mut told) < 0 {
+        return false;
+    }
+    told.st_mode & S_IFMT == S_IFIFO
+}
+
+// Opens a file: a descriptor, or a number below 0. A FIFO is no file.
 fn open(path: Path) -> i32 {
+    if is_fifo(path) {
+        return -1;
+    }
     let bytes = path.bytes;
     os::open_read(first(path.size, &bytes))
 }

@@ -14,8 +14,7 @@ use small_sets::{folders, marker, receiver, relation, set_a, File, Set};
 use std::io::Write;
 use std::os::unix::fs::PermissionsExt;
 use std::process::Command;
-use std::time::Duration;
-use std::{fs, io, thread};
+use std::{fs, io};
 
 /// The size of the program's buffers, and the most whole lines that they hold.
 const BUFFER: usize = 65_536;
@@ -169,20 +168,13 @@ fn devices_are_read_as_files() {
     assert_eq!(empty.says(), spschk::line(&set_a().cut(R, 0)));
 }
 
-/// A file that comes in pieces is read to its end.
+/// A FIFO is no file, and the program does not wait for somebody who writes to it.
 #[test]
-fn short_reads_are_put_together() {
-    let folder = Folder::of("pieces", &set_a()).without(R);
-    let pipe = folder.path(R);
-    let made = Command::new("mkfifo").arg(&pipe).status().expect("mkfifo");
-    assert!(made.success(), "mkfifo ended with {made}");
-    let writer = thread::spawn(move || {
-        let mut pipe = fs::OpenOptions::new().write(true).open(pipe).expect("a reader");
-        for piece in set_a().r.chunks(700) {
-            pipe.write_all(piece).expect("a piece");
-            thread::sleep(Duration::from_millis(20));
-        }
-    });
-    assert_eq!(folder.says(), "ACCEPTED 3 1 1 3 0\n");
-    writer.join().expect("the writer");
+fn a_fifo_is_no_file() {
+    for file in File::ALL {
+        let folder = Folder::of(&format!("fifo_{}", file.letter()), &set_a()).without(file);
+        let made = Command::new("mkfifo").arg(folder.path(file)).status().expect("mkfifo");
+        assert!(made.success(), "mkfifo ended with {made}");
+        assert_eq!(folder.says(), no_file(file));
+    }
 }
