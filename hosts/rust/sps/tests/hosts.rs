@@ -3,7 +3,7 @@
 
 use many_sets::large::{most, two_million_traces, FULL, HOSTILE};
 use naive::HostNumber;
-use small_sets::place::{below, first, header_line};
+use small_sets::place::header_line;
 use small_sets::{File, Set};
 use std::ffi::OsStr;
 use std::fs;
@@ -115,34 +115,6 @@ fn c() {
 fn c_lines() {
     let lines = compiled("cc", "-std=c99", "lines.c", "lines_c");
     run(lines, &[&set_a(), &set_a_tape(), &killed()]);
-}
-
-#[test]
-fn c_example() {
-    let example = compiled("cc", "-std=c99", "example.c", "example_c");
-    let files = |folder: PathBuf| ["set.r01", "set.s01", "set.x01"].map(|name| folder.join(name));
-    let killed = small_sets::set_a().put(File::R, below(2), 27, "KL");
-    for (folder, dead, mark) in
-        [(written("example_killed", &killed), 1, ", killed"), (set_a(), 0, "")]
-    {
-        let [r, s, x] = files(folder);
-        let formed = "R is well formed\n";
-        assert_eq!(run(&example, &[&r]), formed);
-        let printed = run(&example, &[&r, &s, &x]);
-        let line = format!("R line {}, component 1{mark}\n", below(2));
-        assert_eq!(printed, format!("{formed}3 receivers, 3 traces, {dead} dead\n{line}"));
-    }
-    let [r, s, x] = files(set_a());
-    let refusal = |file| format!("refused with 4: file {file}, line {}, column 1\n", first());
-    for (files, printed) in [
-        (vec![&s], refusal(1)),
-        (vec![&s, &s, &x], refusal(1)),
-        (vec![&r, &r, &x], format!("R is well formed\n{}", refusal(2))),
-    ] {
-        let refused = Command::new(&example).args(files).output().expect("it runs");
-        assert_eq!(refused.status.code(), Some(1));
-        assert_eq!(refused.stdout, printed.as_bytes());
-    }
 }
 
 #[test]
