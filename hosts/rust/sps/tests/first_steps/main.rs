@@ -1,5 +1,6 @@
 //! The way of a new user from a fresh clone: the first build, the examples in C, C++ and Python, an
 //! installed library, and every command of README.
 
+mod build;
 mod examples;
 mod tools;
