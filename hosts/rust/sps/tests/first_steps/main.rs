@@ -2,5 +2,7 @@
 //! installed library, and every command of README.
 
 mod build;
+mod clone;
 mod examples;
+mod files;
 mod tools;
