@@ -5,4 +5,5 @@ mod build;
 mod clone;
 mod examples;
 mod files;
+mod python;
 mod tools;

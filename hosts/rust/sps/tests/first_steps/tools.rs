@@ -45,3 +45,13 @@ pub fn copy(from: &Path, to: &Path) -> io::Result<()> {
     fs::create_dir_all(to.parent().expect("a folder"))?;
     fs::copy(from, to).map(|_| ())
 }
+
+/// The shared object that is made of the archive by the package's own command.
+pub fn shared(folder: &Path) -> PathBuf {
+    let library = folder.join("libsps.so");
+    let mut build = Command::new("python3");
+    build.args(["-m", "sps.build", env!("ARCHIVE")]).arg(&library);
+    printed(build.current_dir(root().join("hosts/python")));
+    assert!(library.is_file());
+    library
+}
