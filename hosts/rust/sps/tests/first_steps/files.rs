@@ -31,7 +31,7 @@ fn line_ends() {
 /// Scripts run as they are cloned.
 #[test]
 fn scripts() {
-    for name in [".ci/run", "build"] {
+    for name in [".ci/run", "build", "install"] {
         assert!(git(&["ls-files", "--stage", name]).starts_with("100755 "), "{name}");
         let script = fs::read(root().join(name)).expect("a script");
         assert!(script.starts_with(b"#!/usr/bin/env bash\n"), "{name}");

@@ -5,5 +5,6 @@ mod build;
 mod clone;
 mod examples;
 mod files;
+mod install;
 mod python;
 mod tools;
