@@ -44,14 +44,26 @@
  * A call takes any bytes and any numbers. The medium, the kind, the numbers of a question and the
  * values of a line are 64-bit, so that nothing is cut before it is judged.
  *
+ * What a call costs
+ *
+ * A question of a set (sps_trace, sps_channel, sps_spread, sps_table_line) checks the whole set
+ * first, each time: it costs what sps_cross does, whatever it asks. So a host that wants many
+ * channels of a record asks for its spread table once. sps_form goes over one file, and the calls
+ * that read or write one line look at that line alone.
+ *
  * What the host keeps
  *
  * - A pointer and a length name memory of that many bytes, all of it there. The pointer may be
  *   NULL where the length is 0.
- * - The memory stays, and nobody else changes it, until the call returns. The call keeps no pointer.
+ * - The memory stays, and nobody else changes it, until the call returns; it keeps no pointer. A
+ *   file that is mapped into memory changes with whoever writes the file: copy it first, and have
+ *   the copy checked.
  * - Memory that a call writes (counts, lines, components, values that are read, a line that is
  *   written) overlaps nothing else that it is given. Memory that it only reads may overlap.
- * - A call takes less than 200 KB of stack, and allocates nothing.
+ * - A call takes less than 200 KB of stack, and allocates nothing. Most threads have more: as a
+ *   rule 8 MB with glibc, 2 MB in Rust, 1 MB in Java. With musl (Alpine) a thread has 128 KB, also
+ *   one on which Go runs C, unless pthread_attr_setstacksize gives it more or the program is linked
+ *   with -Wl,-z,stack-size=1048576. An alternate stack for signals (SIGSTKSZ) is too small.
  * - Calls share nothing: they may run at the same time, also on the same files.
  */
 #ifndef SPS_H
