@@ -1,7 +1,8 @@
 //! How long the proved cross-check takes beside the naive reader: on surveys of 100,
 //! 1,000 and 9,999 lines a file, made by `many_sets` from a fixed seed, then on large
 //! sets, one of them on tape too, and on those made to take long. Both give the same
-//! answer at each turn. How the times grow, and whether they keep the limits, comes last.
+//! answer at each turn. Times are of the processor, so that other work on the machine does not
+//! count. How they grow, whether they keep the limits, and how long the whole took, comes last.
 //! The tables are Markdown.
 //!
 //! `cargo bench -p sps --bench cross -- WORDS` runs the sets that have the words in
@@ -10,20 +11,23 @@
 #[allow(dead_code)]
 #[path = "../tests/sets/answers.rs"]
 mod answers;
+#[path = "clock/clock.rs"]
+mod clock;
 #[path = "../tests/common/wrapped.rs"]
 mod wrapped;
 
 use answers::{naive, proved, Answer};
+use clock::cpu_time;
 use many_sets::large::{measured, COMMON, FULL, SEEDED};
 use small_sets::Set;
 use std::collections::BTreeMap;
 use std::env;
 use std::time::{Duration, Instant};
 
-/// A reader runs at least twice, then on until it has had this time.
+/// A reader runs at least twice, then on until it has had this time of the processor.
 const ENOUGH: Duration = Duration::from_millis(500);
 
-/// Each reader at its best, in milliseconds.
+/// Each reader at its best, in milliseconds of the processor.
 #[derive(Clone, Copy)]
 struct Times {
     naive: f64,
@@ -31,6 +35,7 @@ struct Times {
 }
 
 fn main() {
+    let began = Instant::now();
     let words: Vec<String> = env::args().skip(1).filter(|word| !word.starts_with('-')).collect();
     println!("| set | answer | naive ms | proved ms | MB/s | ratio |");
     println!("|---|---|--:|--:|--:|--:|");
@@ -42,6 +47,8 @@ fn main() {
     }
     growth(&times);
     limits(&times);
+    let (whole, cpu) = (began.elapsed().as_secs_f64(), cpu_time().as_secs_f64());
+    println!("\n{} sets in {whole:.0} s, of which {cpu:.0} s of the processor", times.len());
 }
 
 fn run(name: &str, set: &Set) -> Times {
@@ -57,13 +64,13 @@ fn run(name: &str, set: &Set) -> Times {
 
 /// The shortest turn of a reader; each turn gives the answer.
 fn best(name: &str, set: &Set, reader: fn(&Set) -> Answer, expected: Answer) -> f64 {
-    let began = Instant::now();
+    let began = cpu_time();
     let mut best = Duration::MAX;
     let mut turns = 0;
-    while turns < 2 || began.elapsed() < ENOUGH {
-        let turn = Instant::now();
+    while turns < 2 || cpu_time() - began < ENOUGH {
+        let turn = cpu_time();
         let answer = reader(set);
-        best = best.min(turn.elapsed());
+        best = best.min(cpu_time() - turn);
         assert_eq!(answer, expected, "{name}");
         turns += 1;
     }
