@@ -43,3 +43,9 @@ pub fn built() -> &'static Path {
         to
     })
 }
+
+/// What stands in the copy that is neither as it is cloned nor ignored.
+pub fn left() -> String {
+    let words = ["ls-files", "--others", "--modified", "--exclude-standard"];
+    printed(Command::new("git").args(words).current_dir(built()))
+}

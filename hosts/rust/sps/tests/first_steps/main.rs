@@ -7,4 +7,5 @@ mod examples;
 mod files;
 mod install;
 mod python;
+mod readme;
 mod tools;
