@@ -47,6 +47,7 @@ pub mod Dead
 pub mod Counts
 pub mod Turns
 pub mod Spreads
+pub mod TraceRows
 pub mod OneFile
 pub mod OneLine
 pub mod Tables

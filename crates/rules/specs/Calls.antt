@@ -5,6 +5,7 @@
 --   Chosen d P Q    = P of the chosen medium, Q where none is chosen
 --   formIn          = the form check of one file
 --   crossIn, lookupIn, wayBackIn, tableLineIn = the cross-check, the lookup, the way back and the line that names a code, of three files
+--   rowsIn          = what a slice holds after the rows of all traces are asked for; without a medium it stays
 use Prim.Native.Nat.{ℕ}
 use mathlib.Core.List.{List}
 use lib.Dec.{eqb}
@@ -18,6 +19,7 @@ use Rattle.rules.specs.Check.{Answer, refusal, cross}
 use Rattle.rules.specs.OneFile.{fileForm}
 use Rattle.rules.specs.Lookup.{lookup, wayBack}
 use Rattle.rules.specs.Tables.{tableLine}
+use Rattle.rules.specs.TraceRows.{tracesIn}
 
 pub data Choice : Type 0 where
   on : Medium → Choice
@@ -48,3 +50,7 @@ wayBackIn d r s x t n j m = chosen d (λ M. wayBack (sheet M sps93 r) (sheet M s
 
 abbrev pub tableLineIn : Choice → List ℕ → List ℕ → List ℕ → ℕ → List ℕ → Answer
 tableLineIn d r s x b c = chosen d (λ M. tableLine (sheet M sps93 r) (sheet M sps93 s) (sheet M sps93 x) b c)
+
+abbrev pub rowsIn : Choice → List ℕ → List ℕ → List ℕ → ℕ → List ℕ → List ℕ
+rowsIn (on M) r s x i o = tracesIn (sheet M sps93 r) (sheet M sps93 s) (sheet M sps93 x) i o
+rowsIn none r s x i o = o

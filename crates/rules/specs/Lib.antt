@@ -31,6 +31,7 @@ pub mod OneLine
 pub mod Lookup
 pub mod Tables
 pub mod Spread
+pub mod TraceRows
 pub mod Calls
 pub mod Show
 pub mod Hosts
@@ -47,3 +48,4 @@ pub mod Refuses
 pub mod Listed
 pub mod MeetsQuestions
 pub mod MeetsLine
+pub mod MeetsTraces
