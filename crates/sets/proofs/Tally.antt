@@ -14,7 +14,7 @@ use Rattle.keys.specs.Keyed.{takesAt}
 use Rattle.keys.specs.Held.{RelationLine}
 use Rattle.keys.specs.declared.By.the-variants.{Records}
 use Rattle.keys.proofs.Lines.{takes-record}
-use Rattle.sets.specs.Paper.{tracesAt}
+use Rattle.rules.specs.TraceRows.{tracesAt}
 
 -- t says whether line k is a relation line
 module _ (x : Sheet) (k : ℕ) (h : k < x .count) (t : Bool) (q : t ≡ takesAt Records x k) where

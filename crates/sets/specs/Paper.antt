@@ -6,7 +6,6 @@
 --   across r s x       = those, then 13 to 19 line by line over X, last 15
 --   counts r s x       = the answer that accepts, with the counts of the set
 --   answeredAcross     = that answer, after the rules across the files
---   tracesAt x k       = the traces of line k, where it is a relation line
 --   KnownSet r s x     = the three files are well formed
 --   Headed r s x       = and their headers and code tables are met; Met r s x = and so are all rules
 --   Ordered r s x      = the files are well formed, and 10, 11 and 12 are met
@@ -14,13 +13,9 @@
 use Prim.Native.Nat.{ℕ, _≤_}
 use mathlib.Core.List.{List}
 use lib.ListN.{length}
-use Rattle.rules.specs.Places.{pick}
 use mathlib.Core.Path.{_≡_}
 use Rattle.rules.specs.Plan.{№, Plan, fine, fileR, fileS, fileX, _before_, upTo, run}
 use Rattle.rules.specs.Sheet.{Sheet, mostLines}
-use Rattle.rules.specs.Lines.{isData}
-use Rattle.rules.specs.Relations.{reachAt}
-use Rattle.rules.specs.Cover.{traces}
 use Rattle.rules.specs.Form.{form}
 use Rattle.rules.specs.Codes.{codesFit}
 use Rattle.rules.specs.Order.{rule10}
@@ -56,9 +51,6 @@ counts r s x = accepted (points r) (points s) (relations x) (allTraces x) (deadT
 
 abbrev pub answeredAcross : Sheet → Sheet → Sheet → PaperAnswer
 answeredAcross r s x = answer (run (across r s x)) (counts r s x)
-
-abbrev pub tracesAt : Sheet → ℕ → ℕ
-tracesAt x k = pick (isData x k) (traces (reachAt x k)) 0
 
 pub record KnownSet (r s x : Sheet) : Type 0 where
   pub receivers : Known 1 r

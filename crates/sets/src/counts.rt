@@ -7,7 +7,7 @@ ghost use Rattle.rules.specs.Check.{points as pointsOf, relations as relationsO
 ghost use Rattle.lines.specs.Reading.{sheetOf};
 ghost use Rattle.form.specs.Known.{Known};
 ghost use Rattle.keys.specs.Keyed.{takesIn};
-ghost use Rattle.sets.specs.Paper.{tracesAt};
+ghost use Rattle.rules.specs.TraceRows.{tracesAt};
 use fields::figures;
 use keys::By;
 use keys::Keyed;

@@ -6,7 +6,7 @@ use Rattle.rules.specs.Places.{sum}
 use Rattle.rules.proofs.Steps.{sum-more, sum-none}
 use Rattle.lines.specs.Reading.{sheetOf}
 use Rattle.order.proofs.Ranks.{few-lines}
-use Rattle.sets.specs.Paper.{tracesAt}
+use Rattle.rules.specs.TraceRows.{tracesAt}
 use borrow.Author.Needs.{needs}
 use native.Mathlib.Omega.{arith}
 use Rattle.sets.proofs.counts.traces.Statement.{statement}
