@@ -32,7 +32,7 @@ fn any_killed(how: Reading, r: &[u8]) -> bool
 }
 
 // 1 where line k of R is killed, else 0.
-fn one_if_killed(how: Reading, r: &[u8], k: usize) -> u32
+pub fn one_if_killed(how: Reading, r: &[u8], k: usize) -> u32
     requires { ⌜ k < sheetOf how (now r) .count ⌝ }
     ensures value { λ n. ⌜ n ≡ pick (isKilled (pointAt (sheetOf how (now (r .entry))) k)) 1 0 ⌝ }
 {

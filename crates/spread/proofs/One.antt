@@ -13,6 +13,8 @@ use Rattle.spread.proofs.wanted.is_of as wanted-is-of
 use Rattle.spread.proofs.wanted.is_of.Reads as wanted-is-of-reads
 use Rattle.spread.proofs.wanted.upto_of as wanted-upto-of
 use Rattle.spread.proofs.wanted.upto_of.Reads as wanted-upto-of-reads
+use Rattle.spread.proofs.led.row_to as row-to
+use Rattle.spread.proofs.led.row_to.Reads as row-to-reads
 use Rattle.spread.proofs.led.line_to as line-to
 use Rattle.spread.proofs.led.line_to.Reads as line-to-reads
 use Rattle.spread.proofs.numbers.clear as numbers-clear
@@ -52,6 +54,9 @@ wanted-is-of-one κs a v v′ w w′ = alike
 
 pub wanted-upto-of-one : One wanted-upto-of.ended wanted-upto-of-reads.Post
 wanted-upto-of-one κs a v v′ w w′ = alike
+
+pub row-to-one : One row-to.ended row-to-reads.Post
+row-to-one κs a v v′ w w′ p p′ = (one-value (a .0) _ v v′ (p .0) (p′ .0), refl)
 
 pub line-to-one : One line-to.ended line-to-reads.Post
 line-to-one κs a v v′ w w′ p p′ = (one-value (a .0) _ v v′ (p .0) (p′ .0), refl)

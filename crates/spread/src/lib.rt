@@ -17,7 +17,7 @@ use lines::Reading;
 
 mod bytes;
 mod components;
-mod led;
+pub mod led;
 mod numbers;
 pub mod wanted;
 
