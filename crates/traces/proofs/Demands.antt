@@ -4,6 +4,7 @@
 --   LookedUp, AskedBack       = a lookup, and the way back, of a record has that answer
 --   never-shared, there-and-back = what two answers of one record say
 --   tabled, bytes-tabled      = what the spread table says, and what stands in its slices
+--   rows-told                 = what is said of all traces, and what stands in the slice
 --   agrees                    = each of its places agrees with the lookup of its channel, in either form
 use Prim.Native.Nat.{ℕ, _+_, _*_, _/_, _≤_, _<_}
 use mathlib.Core.Path.{_≡_, refl, sym, ap, subst, _∙_}
@@ -30,8 +31,9 @@ use Rattle.traces.specs.declared.Answer.the-variants.{Trace, Channel}
 use Rattle.traces.specs.declared.Spread.the-variants.{Highest}
 use Rattle.traces.specs.Paper.{paper}
 use Rattle.traces.specs.Calls.{lookupOn, wayBackOn}
-use Rattle.traces.specs.Said.{Traced, Returned, Tabled}
+use Rattle.traces.specs.Said.{Traced, Returned, TracesTold, Tabled}
 use Rattle.traces.proofs.Told as told
+use Rattle.traces.proofs.Rowed.{rowed}
 use Rattle.traces.proofs.trace as trace
 use Rattle.traces.proofs.trace.Reads as trace-reads
 use Rattle.traces.proofs.channel as channel
@@ -40,6 +42,8 @@ use Rattle.traces.proofs.spread_table as spread-table
 use Rattle.traces.proofs.spread_table.Reads as spread-table-reads
 use Rattle.traces.proofs.spread_bytes as spread-bytes
 use Rattle.traces.proofs.spread_bytes.Reads as spread-bytes-reads
+use Rattle.traces.proofs.rows as rows
+use Rattle.traces.proofs.rows.Reads as rows-reads
 
 -- which record of which set is asked for, and how its files are read
 pub record Record : Type 0 where
@@ -150,6 +154,13 @@ pub odd-stays-put : (κs : Lfts 6) (a : ArgsD spread-bytes.signature κs) (v : R
     → spread-bytes-reads.Post κs a v w → (c : ℕ) → 2 * (length (now (a .1 .1 .1 .1 .1 .0)) / 2) ≤ c
     → getD (now (w .1 .1 .1 .1 .1 .0)) c 0 ≡ getD (now (a .1 .1 .1 .1 .1 .0)) c 0
 odd-stays-put κs a v w p = told.odd-byte _ _ _ _ p
+
+-- "it checks once and writes the traces as rows"
+pub rows-told : (κs : Lfts 4) (a : ArgsD rows.signature κs) (v : ResD rows.signature κs) (w : AtExit rows.ended κs) → rows-reads.Post κs a v w
+    → TracesTold (sheetOf (a .0) (now (a .1 .0))) (sheetOf (a .0) (now (a .1 .1 .0))) (sheetOf (a .0) (now (a .1 .1 .1 .0)))
+    (a .1 .1 .1 .1 .0) v (now (a .1 .1 .1 .1 .1 .0)) (now (w .1 .1 .1 .1 .1 .0))
+rows-told κs a v w p =
+    rowed _ _ _ (asks (a .0) (now (a .1 .0)) (now (a .1 .1 .0)) (now (a .1 .1 .1 .0))) (a .1 .1 .1 .1 .0) v (p .0) (now (a .1 .1 .1 .1 .1 .0)) _ (p .1)
 
 -- the table and the lookup agree: where the one says h, the place of each channel up to h has the line and component that the other answers
 pub agrees : (read : List ℕ → List ℕ) (q : Record) (d e d′ e′ : List ℕ) (h : ℕ)

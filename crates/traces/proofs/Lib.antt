@@ -5,4 +5,5 @@ pub mod Ways
 pub mod Tables
 pub mod One
 pub mod Told
+pub mod Rowed
 pub mod Demands

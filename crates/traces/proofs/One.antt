@@ -2,6 +2,7 @@
 -- the same.
 use mathlib.Core.Path.{_≡_, refl, sym, _∙_}
 use Rattle.outcome.specs.One.{One, both, alike}
+use Rattle.sets.proofs.One.{answer-one as set-one}
 use Rattle.traces.specs.declared.Answer.{Answer}
 use Rattle.traces.specs.declared.Answer.the-variants.{Trace, Channel, NoTrace, Refused}
 use Rattle.traces.specs.declared.Spread.{Spread}
@@ -25,6 +26,8 @@ use Rattle.traces.proofs.channel as channel
 use Rattle.traces.proofs.channel.Reads as channel-reads
 use Rattle.traces.proofs.spread_table as spread-table
 use Rattle.traces.proofs.spread_table.Reads as spread-table-reads
+use Rattle.traces.proofs.rows as rows
+use Rattle.traces.proofs.rows.Reads as rows-reads
 use Rattle.traces.proofs.spread_bytes as spread-bytes
 use Rattle.traces.proofs.spread_bytes.Reads as spread-bytes-reads
 
@@ -87,3 +90,7 @@ spread-bytes-one κs a v v′ w w′ p p′ = (
   spread-one v v′ (p .answer ∙ sym (p′ .answer)),
   both refl (both refl (both refl (both refl (both refl (both (p .lines ∙ sym (p′ .lines)) (both (p .components ∙ sym (p′ .components)) refl)))))),
 )
+
+pub rows-one : One rows.ended rows-reads.Post
+rows-one κs a v v′ w w′ p p′ =
+    (set-one v v′ (p .0 ∙ sym (p′ .0)), both refl (both refl (both refl (both refl (both refl (both (p .1 ∙ sym (p′ .1)) refl))))))

@@ -3,13 +3,14 @@
 --   Traced r s x t n c v     = what the lookup's answer v says
 --   Returned r s x t n j m v = what the way back's answer v says
 --   Slice h part old new     = part 1 to part h stand in the first h places of a slice, and its later places stay
+--   TracesTold r s x i v o e = what stands in a slice after the rows from trace i on are asked for, o before and e after, by the answer v
 --   Tabled read r s x t n .. = what the spread table's answer v says, and what stands in its slices; read gives the numbers of the first
-use Prim.Native.Nat.{ℕ, _+_, _-_, _≤_, _<_}
+use Prim.Native.Nat.{ℕ, _+_, _-_, _*_, _≤_, _<_}
 use mathlib.Core.Bool.{Bool, true}
 use mathlib.Core.Path.{_≡_}
 use mathlib.Core.Logic.{_↔_}
 use mathlib.Core.List.{List}
-use lib.ListN.{length, getD}
+use lib.ListN.{length, getD, take, drop}
 use Rattle.rules.specs.Plan.{№}
 use Rattle.rules.specs.Sheet.{Sheet}
 use Rattle.rules.specs.Relations.{Reach, reachAt}
@@ -23,6 +24,10 @@ use Rattle.rules.specs.Meets.{Meets}
 use Rattle.rules.specs.Refuses.{First}
 use Rattle.rules.specs.MeetsQuestions.{Asked, AskedChannel, AskedLine, Of, Uncovered, Unreached, Absent, Highest as HighestOf}
 use Rattle.rules.specs.MeetsQuestions.{lookupOrder, wayBackOrder, spreadOrder}
+use Rattle.rules.specs.TraceRows.{traceRow, rowBytes}
+use Rattle.rules.specs.MeetsTraces.{RowsTold}
+use Rattle.sets.specs.declared.Answer.{Answer as SetAnswer}
+use Rattle.sets.specs.declared.Answer.the-variants.{Accepted, Refused as SetRefused}
 use Rattle.traces.specs.declared.Answer.{Answer}
 use Rattle.traces.specs.declared.Answer.the-variants.{Trace, NoTrace, Refused}
 use Rattle.traces.specs.declared.Spread.{Spread}
@@ -69,3 +74,15 @@ pub record Tabled (read : List ℕ → List ℕ) (r s x : Sheet) (t : List ℕ) 
   pub refused : (i f l e : ℕ) → (v ≡ Denied i f l e) ↔ First (spreadOrder r s x t n (length (read lines)) (length components)) (№ i f l e)
   -- "All refusals write nothing."
   pub unwritten : (i f l e : ℕ) → v ≡ Denied i f l e → (lines′ ≡ lines) × (components′ ≡ components)
+
+pub record TracesTold (r s x : Sheet) (i : ℕ) (v : SetAnswer) (o e : List ℕ) : Type 0 where
+  pub size : length e ≡ length o
+  -- the rows of an accepted set are what the lookup and the way back answer
+  pub rows : Meets r s x → RowsTold r s x
+  -- "from number `first` on, as many as the slice has whole places"
+  pub written : (a b c t d : ℕ) → v ≡ Accepted a b c t d → (j : ℕ) → i + j < t → 16 * j + 16 ≤ length o
+      → take 16 (drop (16 * j) e) ≡ rowBytes (traceRow r x (i + j))
+  -- "places after the last trace and bytes that are no whole place stay"
+  pub others : (a b c t d : ℕ) → v ≡ Accepted a b c t d → (j : ℕ) → (i + j < t → length o < 16 * j + 16) → drop (16 * j) e ≡ drop (16 * j) o
+  -- "a refusal writes nothing"
+  pub unwritten : (n f l c : ℕ) → v ≡ SetRefused n f l c → e ≡ o

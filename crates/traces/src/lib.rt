@@ -1,5 +1,5 @@
-// The questions on a set: from a tape, record and channel to the receiver's line and component, and back. Each checks the set itself,
-// after the question's own range.
+// The questions on a set: from a tape, record and channel to the receiver's line and component, and back; and all traces as rows. Each checks
+// the set itself, after the question's own range.
 ghost use mathlib.Core.Path.{_≡_};
 ghost use mathlib.Core.Bool.{true};
 ghost use Prim.Native.Nat.{ℕ, _≤_, _<_};
@@ -9,8 +9,10 @@ ghost use Rattle.rules.specs.Points.{pointAt};
 ghost use Rattle.rules.specs.Check.{channel as channelAnswer};
 ghost use Rattle.rules.specs.Lookup.{reaches, found as foundOf, foundBack};
 ghost use Rattle.rules.specs.Spread.{spread as spreadOf};
+ghost use Rattle.rules.specs.TraceRows.{tracesIn};
 ghost use Rattle.lines.specs.Reading.{sheetOf};
 ghost use Rattle.keys.specs.Held.{RelationLine};
+ghost use Rattle.sets.specs.Paper.{paper as setPaper, crossOn};
 ghost use Rattle.spread.specs.Asked.{Asked, Accepted};
 ghost use Rattle.traces.specs.Paper.{paper, paperSpread};
 ghost use Rattle.traces.specs.Steps.{tracedOn, ReceiverLine};
@@ -20,6 +22,7 @@ use keys::Keyed;
 use lines::Reading;
 use records::cover;
 use records::relation;
+use rows::Wanted;
 use search::Sought;
 use sets::Answer as SetAnswer;
 
@@ -247,4 +250,34 @@ pub fn spread_bytes(
     }
     spread::fill_bytes(how, r, x, tape, record, lines, components);
     v
+}
+
+// All traces of a set as rows: the cross-check's own answer, and of an accepted set the rows from trace `first` on in the places of a slice, as
+// many as it has whole. A refusal writes nothing.
+pub fn rows(
+    how: Reading,
+    r: &[u8],
+    s: &[u8],
+    x: &[u8],
+    first: u64,
+    places: &mut [u8],
+) -> SetAnswer
+    ensures answer { λ a. ⌜ setPaper a ≡ crossOn how (now (r .entry)) (now (s .entry)) (now (x .entry)) ⌝ }
+    ensures written { λ _. ⌜ now (places .exit)
+        ≡ tracesIn (sheetOf how (now (r .entry))) (sheetOf how (now (s .entry))) (sheetOf how (now (x .entry))) first (now (places .entry)) ⌝ }
+{
+    let a = sets::cross(how, r, s, x);
+    if let SetAnswer::Refused(_, _, _, _) = a {
+        return a;
+    }
+    rows::fill(
+        Wanted {
+            how,
+            first,
+        },
+        r,
+        x,
+        places,
+    );
+    a
 }
