@@ -71,21 +71,27 @@ module _ (M : Medium) (g : Lawful M) (r s x : List ℕ) where
   abbrev file : List ℕ → Sheet
   file = sheet M sps93
 
+  pub set-known : (n : ℕ) → n ≡ hostNumber (cross (file r) (file s) (file x))
+      → (v : SetAnswer) × Judged (file r) (file s) (file x) v × TellsSet n v × (setPaper v ≡ cross (file r) (file s) (file x))
+  set-known n e =
+      let a = set-answer (file r) (file s) (file x) in (
+        a .0,
+        judged _ _ _ (a .0) (a .1),
+        tells-set (a .0) (subst Sized (sym (a .1)) (cross-sized M g r s x)) n (e ∙ ap hostNumber (sym (a .1))),
+        a .1,
+      )
+
   set-told : (n : ℕ) → n ≡ hostNumber (cross (file r) (file s) (file x)) → (v : SetAnswer) × Judged (file r) (file s) (file x) v × TellsSet n v
-  set-told n e =
-      let a = set-answer (file r) (file s) (file x) in
-      (a .0, judged _ _ _ (a .0) (a .1), tells-set (a .0) (subst Sized (sym (a .1)) (cross-sized M g r s x)) n (e ∙ ap hostNumber (sym (a .1))))
+  set-told n e = let a = set-known n e in (a .0, a .1, a .2)
 
   slice-told : (n : ℕ) → n ≡ hostNumber (cross (file r) (file s) (file x)) → (o e : List ℕ) → e ≡ counted (cross (file r) (file s) (file x)) o
       → (v : SetAnswer) × Judged (file r) (file s) (file x) v × TellsSet n v × CountsTold v o e
-  unfolding set-told
   slice-told n p o e w =
-      let a = set-answer (file r) (file s) (file x) in
-      let b = set-told n p in
-      let q : (u : SetAnswer) → a .0 ≡ u → cross (file r) (file s) (file x) ≡ setPaper u = λ u y. sym (a .1) ∙ ap setPaper y in (
+      let a = set-known n p in
+      let q : (u : SetAnswer) → a .0 ≡ u → cross (file r) (file s) (file x) ≡ setPaper u = λ u y. sym (a .3) ∙ ap setPaper y in (
         a .0,
-        b .1,
-        b .2,
+        a .1,
+        a .2,
         record {
           size = length-stays M g r s x o e w;
           written = λ n m k t d y. count-at M g r s x o e w n m k t d (q (Accepted n m k t d) y);
@@ -159,14 +165,14 @@ module _ (M : Medium) (g : Lawful M) where
       (tells-set (a .0) (subst Sized (sym (a .1)) (cross-sized M g r s x)) t (et ∙ ap hostNumber (sym (a .1))))
 
 -- by the medium that a number chooses, or 20
-told : (d : Choice) (P : Medium → Type 0) (Q : Type 0) → ((M : Medium) → d ≡ on M → P M) → (d ≡ none → Q) → Chosen d P Q
+pub told : (d : Choice) (P : Medium → Type 0) (Q : Type 0) → ((M : Medium) → d ≡ on M → P M) → (d ≡ none → Q) → Chosen d P Q
 told (on M) P Q f g = f M refl
 told none P Q f g = g refl
 
-answered-by : (d e : Choice) (A : Medium → PaperAnswer) (n : ℕ) → n ≡ hostNumber (chosen d A) → d ≡ e → n ≡ hostNumber (chosen e A)
+pub answered-by : (d e : Choice) (A : Medium → PaperAnswer) (n : ℕ) → n ≡ hostNumber (chosen d A) → d ≡ e → n ≡ hostNumber (chosen e A)
 answered-by d e A n p y = p ∙ ap (λ (u : Choice). hostNumber (chosen u A)) y
 
-unknown : (d : Choice) (A : Medium → PaperAnswer) (n : ℕ) → n ≡ hostNumber (chosen d A) → d ≡ none → RefusedAs n 20 0 0 0
+pub unknown : (d : Choice) (A : Medium → PaperAnswer) (n : ℕ) → n ≡ hostNumber (chosen d A) → d ≡ none → RefusedAs n 20 0 0 0
 unfolding hostNumber
 unknown d A n p y = refused-as 20 0 0 0 asked-listed n (answered-by d none A n p y)
 

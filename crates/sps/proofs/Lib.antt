@@ -9,3 +9,4 @@ pub mod Whole
 pub mod Demands
 pub mod WriteDemands
 pub mod ReadDemands
+pub mod RowDemands

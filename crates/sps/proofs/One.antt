@@ -53,6 +53,8 @@ use Rattle.sps.proofs.line.sps_write_point as sps-write-point
 use Rattle.sps.proofs.line.sps_write_point.Reads as sps-write-point-reads
 use Rattle.sps.proofs.line.sps_write_relation as sps-write-relation
 use Rattle.sps.proofs.line.sps_write_relation.Reads as sps-write-relation-reads
+use Rattle.sps.proofs.sps_traces as sps-traces
+use Rattle.sps.proofs.sps_traces.Reads as sps-traces-reads
 use Rattle.sps.proofs.sps_spread as sps-spread
 use Rattle.sps.proofs.sps_spread.Reads as sps-spread-reads
 
@@ -150,3 +152,7 @@ sps-write-point-one κs a v v′ w w′ p p′ = (p .0 ∙ sym (p′ .0), both r
 
 pub sps-write-relation-one : One sps-write-relation.ended sps-write-relation-reads.Post
 sps-write-relation-one κs a v v′ w w′ p p′ = (p .0 ∙ sym (p′ .0), both refl (both (p .1 ∙ sym (p′ .1)) refl))
+
+pub sps-traces-one : One sps-traces.ended sps-traces-reads.Post
+sps-traces-one κs a v v′ w w′ p p′ =
+    (p .0 ∙ sym (p′ .0), both refl (both refl (both refl (both refl (both refl (both (p .1 ∙ sym (p′ .1)) refl))))))

@@ -1,5 +1,5 @@
-// The calls for C hosts, which `include/sps.h` declares: the form of one file, the cross-check of three, both lookups, the spread table and the
-// line that names a code, on numbers and byte slices; in `line` the values of one line, read and written.
+// The calls for C hosts, which `include/sps.h` declares: the form of one file, the cross-check of three, both lookups, the spread table, the
+// line that names a code and all traces as rows, on numbers and byte slices; in `line` the values of one line, read and written.
 // Each carries the answer of the proved call over as one 64-bit number: a refusal from 2^40 on, any other answer below. The number of the
 // medium comes first, and is looked at before all else.
 ghost use mathlib.Core.Path.{_≡_};
@@ -8,7 +8,7 @@ ghost use Rattle.rules.specs.Places.{pick};
 ghost use Rattle.rules.specs.Plan.{№};
 ghost use Rattle.rules.specs.Layout.{sps93};
 ghost use Rattle.rules.specs.Medium.{sheet};
-ghost use Rattle.rules.specs.Calls.{choice, formIn, crossIn, lookupIn, wayBackIn, tableLineIn};
+ghost use Rattle.rules.specs.Calls.{choice, formIn, crossIn, lookupIn, wayBackIn, tableLineIn, rowsIn};
 ghost use Rattle.rules.specs.Hosts.{packed, hostNumber};
 ghost use Rattle.form.specs.Paper.{answered};
 ghost use Rattle.sets.specs.Paper.{paper as setPaper};
@@ -235,6 +235,27 @@ pub extern "C" fn sps_table_line(
 {
     match lines::chosen(medium) {
         Choice::On(how) => line_number(tables::table_line(how, r, s, x, kind, code)),
+        Choice::None => pack(20, 0, 0, 0),
+    }
+}
+
+// All traces of a set as rows of sixteen bytes: of an accepted set those from trace `first` on go into the places of a slice, as many as it has
+// whole. Answers the traces of the set. A refusal writes nothing.
+#[no_mangle]
+pub extern "C" fn sps_traces(
+    medium: u64,
+    r: &[u8],
+    s: &[u8],
+    x: &[u8],
+    first: u64,
+    rows: &mut [u8],
+) -> u64
+    ensures answer { λ n. ⌜ n ≡ hostNumber (crossIn (choice medium) (now (r .entry)) (now (s .entry)) (now (x .entry))) ⌝ }
+    ensures written { λ _. ⌜ now (rows .exit)
+        ≡ rowsIn (choice medium) (now (r .entry)) (now (s .entry)) (now (x .entry)) first (now (rows .entry)) ⌝ }
+{
+    match lines::chosen(medium) {
+        Choice::On(how) => set_number(traces::rows(how, r, s, x, first, rows)),
         Choice::None => pack(20, 0, 0, 0),
     }
 }
