@@ -17,18 +17,22 @@ fn dead_traces() {
     assert_eq!(of("dead_traces", &all).1, "ACCEPTED 3 1 1 3 3\n");
 }
 
-const WORDS: &str = "refused with 13: no shot has the source line name, point and index of the \
-relation line, or the shot that has them is killed\n";
-
-/// Holds all that is said of a relation line whose shot is not there, or is killed in a line of S.
+/// Holds what is said of a relation line whose shot is not there, or is killed in a line of S:
+/// both media the same.
 fn hold(name: &str, set: &Set, line: usize, killed: Option<usize>) {
-    let told = killed
-        .map_or_else(String::new, |line| format!("the shot is killed: set.s01, line {line}\n"));
-    let text = String::from_utf8_lossy(&set.line(X, line).0).into_owned();
-    let reason = format!("set.x01, line {line}, column 14\n{WORDS}{told}{text}\n{:>14}\n", '^');
-    for set in media(set) {
-        let expected = (Some(1), format!("REFUSED 13 X {line} 14\n"), reason.clone());
-        assert_eq!(of(name, &set), expected, "{name}, {:?}", set.medium);
+    let [(status, verdict, reason), on_tape] = media(set).map(|set| of(name, &set));
+    assert_eq!((status, verdict.as_str()), (Some(1), &*format!("REFUSED 13 X {line} 14\n")));
+    assert_eq!(on_tape, (status, verdict, reason.clone()), "{name}");
+    assert!(reason.starts_with(&format!("set.x01:{line}:14: refused with 13: ")), "{reason}");
+    match killed {
+        Some(line) => {
+            let told = format!("\nthat shot is killed (S line {line})\n");
+            assert!(reason.contains(&told), "{reason}");
+            let text = String::from_utf8_lossy(&set.line(S, line).0).into_owned();
+            let other = format!("\nset.s01:{line}:27: the killed shot\n{text}\n{:>27}\n", '^');
+            assert!(reason.ends_with(&other), "{reason}");
+        }
+        None => assert!(!reason.contains("killed"), "{reason}"),
     }
 }
 

@@ -6,11 +6,14 @@ mod program;
 mod codes;
 mod killed;
 mod large;
+mod message;
+mod messages;
 mod one_file;
 mod reasons;
 mod tables;
 mod tapes;
 mod unreadable;
+mod whole;
 
 use program::{folder, spswhy, words, words_of_one, write, NAMES};
 use small_sets::Set;
@@ -24,9 +27,14 @@ fn said(output: Output) -> Said {
     (output.status.code(), text(output.stdout), text(output.stderr))
 }
 
+/// The tape of a set.
+fn tape(set: &Set) -> Set {
+    set.on_tape().expect("characters of a tape")
+}
+
 /// A set on disc and on tape.
 fn media(set: &Set) -> [Set; 2] {
-    [set.clone(), set.on_tape().expect("characters of a tape")]
+    [set.clone(), tape(set)]
 }
 
 /// What is said of a set.

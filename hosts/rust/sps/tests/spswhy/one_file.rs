@@ -100,9 +100,12 @@ fn another_kind() {
             let text = String::from_utf8_lossy(&set_a().line(file, first()).0).into_owned();
             let name = NAMES[file as usize - 1];
             let expected = format!(
-                "{name}, line {}, column 1\nrefused with 4: column 1 is not H or the file's own \
-                 letter, or an H line stands after data\n{text}\n^\n",
-                first()
+                "{name}:{}:1: refused with 4: column 1 is neither H nor the letter of the file\n\
+                 column 1: found \"{}\"; needs H or {}\nthis looks like an {} file\n{text}\n^\n",
+                first(),
+                file.letter(),
+                kind.letter(),
+                file.letter()
             );
             assert_eq!(reason, expected, "{file:?} as {kind:?}");
         }
@@ -118,7 +121,10 @@ fn another_name() {
             assert_eq!(shots_as(S), accepted(), "{name}");
             let (status, verdict, reason) = shots_as(R);
             assert_eq!((status, verdict), (Some(1), format!("REFUSED 4 R {} 1\n", first())));
-            assert!(reason.starts_with(&format!("{name}, line ")), "{reason}");
+            assert!(
+                reason.starts_with(&format!("{name}:{}:1: refused with 4: ", first())),
+                "{reason}"
+            );
         }
     }
 }

@@ -1,6 +1,6 @@
 //! Code tables: which codes the header names, and which line names a code before.
 
-use crate::of;
+use crate::{of, tape};
 use small_sets::place::{below, first, header_line};
 use small_sets::{header_with, set_a, File, Set};
 
@@ -24,18 +24,7 @@ fn tables() -> Set {
     ])
 }
 
-fn tape(set: &Set) -> Set {
-    set.on_tape().expect("characters of a tape")
-}
-
-const NOT_NAMED: &str =
-    "refused with 25: no first record of a code table in the header of R names \
-this code: H600, H610 to H690 name receivers, H700, H720 to H880 sources, H400, H420 to H560 \
-instruments\n";
-
-const TWICE: &str =
-    "refused with 24: the first record of a code table names a code, in columns 33 \
-and 34, that the first record of an earlier one names\n";
+const NOT_NAMED: &str = "no code table in the header of R names this code";
 
 /// Holds what is said of a set, on disc and on tape.
 fn hold(name: &str, set: &Set, verdict: &str, reason: &str) {
@@ -50,8 +39,9 @@ fn hold(name: &str, set: &Set, verdict: &str, reason: &str) {
 fn a_receiver() {
     let line = below(2) + 7;
     let reason = format!(
-        "set.r01, line {line}, column 27\n{NOT_NAMED}\
-         the header names these receiver codes:\nG1  line {}, H600\nH2  line {}, H690\n\
+        "set.r01:{line}:27: refused with 25: {NOT_NAMED}\n\
+         receiver codes are named in columns 33 and 34 of H600, H610 to H690\n\
+         found G2; the header names these receiver codes:\nG1  line {}, H600\nH2  line {}, H690\n\
          RL1                   1021G2     0.0   0            0.0       0.0   0.0113071245\n\
          {:>27}\n",
         header_line(600),
@@ -66,8 +56,9 @@ fn a_receiver() {
 fn a_source() {
     let line = first() + 7;
     let reason = format!(
-        "set.s01, line {line}, column 27\n{NOT_NAMED}\
-         the header names these source codes:\nV1  line {}, H700\nS9  line {}, H880\n\
+        "set.s01:{line}:27: refused with 25: {NOT_NAMED}\n\
+         source codes are named in columns 33 and 34 of H700, H720 to H880\n\
+         found V2; the header names these source codes:\nV1  line {}, H700\nS9  line {}, H880\n\
          SL1                   5011V2     0.0   0            0.0       0.0   0.0113071245\n\
          {:>27}\n",
         header_line(700),
@@ -82,8 +73,9 @@ fn a_source() {
 fn an_instrument() {
     let line = first() + 7;
     let reason = format!(
-        "set.x01, line {line}, column 13\n{NOT_NAMED}\
-         the header names these instruments:\n1  line {}, H400\n7  line {}, H560\n\
+        "set.x01:{line}:13: refused with 25: {NOT_NAMED}\n\
+         instruments are named in columns 33 and 34 of H400, H420 to H560\n\
+         found 2; the header names these instruments:\n1  line {}, H400\n7  line {}, H560\n\
          X100     1112L1                   5011   1   31L1                   101     1031\n\
          {:>13}\n",
         header_line(400),
@@ -105,7 +97,7 @@ fn none_named() {
         let set = set_a().each(|set, file| set.remove(file, header_line(number)));
         let (_, verdict, reason) = of("none_named", &set);
         assert_eq!(verdict, format!("REFUSED 25 {file} {} {column}\n", first() - 1));
-        assert!(reason.contains(&format!("\nthe header names no {what}\n")), "{reason}");
+        assert!(reason.contains(&format!("; the header names no {what}\n")), "{reason}");
     }
 }
 
@@ -113,16 +105,20 @@ fn none_named() {
 fn named_before() {
     for (number, code, own) in [(690, "G1", 600), (700, "V1", 700), (420, "1", 400)] {
         let line = header_with(number, code).at(5, "again");
-        let text = String::from_utf8_lossy(&line.0).into_owned();
+        let set = with(&[line]);
+        let before = header_line(own);
+        let [text, other] = [line, set.line(File::R, before)]
+            .map(|line| String::from_utf8_lossy(&line.0).into_owned());
         let reason = format!(
-            "set.r01, line {}, column 33\n{TWICE}line {}, H{own}, names {code} before it\n\
-             {text}\n{:>33}\n",
+            "set.r01:{}:33: refused with 24: a code table names a code that an earlier one names\n\
+             line {before}, H{own}, names {code} before it\n{text}\n{:>33}\n\
+             set.r01:{before}:33: the line that names it first\n{other}\n{:>33}\n",
             first(),
-            header_line(own),
+            '^',
             '^'
         );
         let verdict = format!("REFUSED 24 R {} 33", first());
-        hold(&format!("named_before_{number}"), &with(&[line]), &verdict, &reason);
+        hold(&format!("named_before_{number}"), &set, &verdict, &reason);
     }
 }
 

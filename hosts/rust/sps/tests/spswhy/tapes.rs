@@ -1,14 +1,10 @@
 //! Tapes: their lines translated, and files that look like the other medium.
 
 use crate::reasons::last_two;
-use crate::{folder, of, said, spswhy, words, write, NAMES};
+use crate::{folder, of, said, spswhy, tape, words, write, NAMES};
 use small_sets::place::{below, first, last_header};
 use small_sets::tape::{byte_of, characters};
 use small_sets::{set_a, File, Medium, Set};
-
-fn tape(set: &Set) -> Set {
-    set.on_tape().expect("characters of a tape")
-}
 
 #[test]
 fn accepted() {
@@ -66,9 +62,10 @@ fn no_end() {
     let (status, verdict, reason) = of("no_end", &set.remove(File::X, below(2)));
     assert_eq!((status, verdict), (Some(1), format!("REFUSED 29 X {} 0\n", below(2))));
     let expected = format!(
-        "set.x01, line {}\nrefused with 29: no EOF record ends the tape, or records follow the \
-         first one\nno line is shown: the breach is of no column\n",
-        below(2)
+        "set.x01:{}:0: refused with 29: no EOF record ends the tape\n\
+         {} records, none with EOF in columns 1 to 3; needs one\n",
+        below(2),
+        first()
     );
     assert_eq!(reason, expected);
 }

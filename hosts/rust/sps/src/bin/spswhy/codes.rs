@@ -1,6 +1,7 @@
 //! The codes of points: one row a family, in the order of the standard's lists at H600 and
 //! H700.
 
+use crate::rows::form::FAMILY;
 use sps::File::{self, R, S};
 
 /// The codes of a family, what they say of a point, and the files that may have them.
@@ -19,15 +20,15 @@ const FAMILIES: [Family; 10] = [
     ("KL", "killed or omitted", &[R, S]),
 ];
 
-/// The rows that a file may have, one a line.
-pub fn rows(file: File) -> String {
-    let of = FAMILIES.iter().filter(|(_, _, files)| files.contains(&file));
-    of.map(|(codes, what, _)| format!("{codes}  {what}\n")).collect()
+/// The rows that a file may have, one a sentence.
+pub fn rows(file: File) -> impl Iterator<Item = String> {
+    let of = FAMILIES.iter().filter(move |(_, _, files)| files.contains(&file));
+    of.map(|(codes, what, _)| FAMILY.with(&[codes, what]))
 }
 
 /// Whether a code of a file is one with a digit.
-pub fn is_numbered(file: File, code: &str) -> bool {
-    let [letter, b'1'..=b'9'] = code.as_bytes() else { return false };
+pub fn is_numbered(file: File, code: &[u8]) -> bool {
+    let [letter, b'1'..=b'9'] = code else { return false };
     let mut families = FAMILIES.iter().filter(|(_, _, files)| files.contains(&file));
     families.any(|(codes, _, _)| codes.ends_with('9') && codes.as_bytes()[0] == *letter)
 }

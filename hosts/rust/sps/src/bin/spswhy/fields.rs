@@ -1,64 +1,137 @@
 //! The fields of a line with their rules, as the paper's tables have them.
 
 use sps::File;
+use std::fmt;
 
 /// First and last column, name, and rule.
-pub type Field = (usize, usize, &'static str, &'static str);
+pub struct Field {
+    pub first: usize,
+    pub last: usize,
+    pub name: &'static str,
+    pub rule: Rule,
+}
+
+/// What a field holds. The ends of decimals are in tenths.
+#[derive(Clone, Copy, PartialEq, Eq)]
+pub enum Rule {
+    Name,
+    Whole {
+        least: i64,
+        most: i64,
+    },
+    WholeOrBlank {
+        least: i64,
+        most: i64,
+    },
+    Decimal {
+        least: i64,
+        most: i64,
+    },
+    Coordinate,
+    WaterDepth,
+    OneToNine,
+    /// `codes` has the families that a file may have.
+    Code,
+    Time,
+    HeaderType,
+    AfterType,
+}
+
+use Rule::*;
+
+const POINT_NUMBER: Rule = Whole { least: 0, most: 99_999_999 };
+const CHANNEL: Rule = Whole { least: 1, most: 9_999 };
+
+const fn field(first: usize, last: usize, name: &'static str, rule: Rule) -> Field {
+    Field { first, last, name, rule }
+}
 
 const HEADER: [Field; 2] = [
-    (2, 3, "header type", "two digits"),
-    (4, 4, "column after the header type", "blank or a digit"),
+    field(2, 3, "header type", HeaderType),
+    field(4, 4, "column after the header type", AfterType),
 ];
 
-const INDEX: &str = "1 to 9, blank is 1";
-const POINT_NUMBER: &str = "whole number, 0 to 99999999";
-const NAME: &str = "its first column is not blank";
-const DECIMAL: &str = "decimal, or tenths without a point";
-
-/// `codes` has the families that a file may have.
-pub const CODE: Field =
-    (27, 28, "point code", "G H R in R, V E A W S in S, with a digit 1 to 9; PM or KL in both");
-
 const POINT: [Field; 14] = [
-    (2, 17, "line name", NAME),
-    (18, 25, "point number", POINT_NUMBER),
-    (26, 26, "point index", INDEX),
-    CODE,
-    (29, 32, "static", "whole number, -999 to 999, may be blank"),
-    (33, 36, "depth", "decimal, 0 to 99.9, or tenths 0 to 999 without a point"),
-    (37, 40, "seismic datum", "whole number, -999 to 9999"),
-    (41, 42, "uphole", "whole number, 0 to 99, may be blank"),
-    (43, 46, "water depth", "0 to 99.9, or whole metres 0 to 999, may be blank"),
-    (47, 55, "easting", DECIMAL),
-    (56, 65, "northing", DECIMAL),
-    (66, 71, "elevation", "decimal, -999.9 to 9999.9, or tenths -9999 to 99999 without a point"),
-    (72, 74, "day", "whole number, 1 to 999"),
-    (75, 80, "time", "six digits, 000000 to 235959, minutes and seconds below 60"),
+    field(2, 17, "line name", Name),
+    field(18, 25, "point number", POINT_NUMBER),
+    field(26, 26, "point index", OneToNine),
+    field(27, 28, "point code", Code),
+    field(29, 32, "static", WholeOrBlank { least: -999, most: 999 }),
+    field(33, 36, "depth", Decimal { least: 0, most: 999 }),
+    field(37, 40, "seismic datum", Whole { least: -999, most: 9_999 }),
+    field(41, 42, "uphole", WholeOrBlank { least: 0, most: 99 }),
+    field(43, 46, "water depth", WaterDepth),
+    field(47, 55, "easting", Coordinate),
+    field(56, 65, "northing", Coordinate),
+    field(66, 71, "elevation", Decimal { least: -9_999, most: 99_999 }),
+    field(72, 74, "day", Whole { least: 1, most: 999 }),
+    field(75, 80, "time", Time),
 ];
 
 const RELATION: [Field; 14] = [
-    (2, 7, "tape", NAME),
-    (8, 11, "field record", "whole number, 0 to 9999"),
-    (12, 12, "record increment", INDEX),
-    (13, 13, "instrument", INDEX),
-    (14, 29, "source line name", NAME),
-    (30, 37, "source point", POINT_NUMBER),
-    (38, 38, "source index", INDEX),
-    (39, 42, "from channel", "whole number, 1 to 9999"),
-    (43, 46, "to channel", "whole number, 1 to 9999"),
-    (47, 47, "channel increment", INDEX),
-    (48, 63, "receiver line name", NAME),
-    (64, 71, "from receiver", POINT_NUMBER),
-    (72, 79, "to receiver", POINT_NUMBER),
-    (80, 80, "receiver index", INDEX),
+    field(2, 7, "tape", Name),
+    field(8, 11, "field record", Whole { least: 0, most: 9_999 }),
+    field(12, 12, "record increment", OneToNine),
+    field(13, 13, "instrument", OneToNine),
+    field(14, 29, "source line name", Name),
+    field(30, 37, "source point", POINT_NUMBER),
+    field(38, 38, "source index", OneToNine),
+    field(39, 42, "from channel", CHANNEL),
+    field(43, 46, "to channel", CHANNEL),
+    field(47, 47, "channel increment", OneToNine),
+    field(48, 63, "receiver line name", Name),
+    field(64, 71, "from receiver", POINT_NUMBER),
+    field(72, 79, "to receiver", POINT_NUMBER),
+    field(80, 80, "receiver index", OneToNine),
 ];
 
 /// The field that starts at a column of a line.
-pub fn field(file: File, line: &[u8], column: usize) -> Option<&'static Field> {
+pub fn starts_at(file: File, line: &[u8], column: usize) -> Option<&'static Field> {
     let fields: &[Field] = match (line.first(), file) {
         (Some(b'H'), _) => &HEADER,
         (_, File::X) => &RELATION,
         (_, File::R | File::S) => &POINT,
     };
-    fields.iter().find(|(first, ..)| *first == column)
+    fields.iter().find(|field| field.first == column)
+}
+
+impl Field {
+    /// Its columns in words.
+    pub fn columns(&self) -> String {
+        match (self.first, self.last) {
+            (first, last) if first == last => format!("column {first}"),
+            (first, last) => format!("columns {first} to {last}"),
+        }
+    }
+}
+
+/// Tenths with their point.
+pub fn tenths(number: i64) -> String {
+    let (minus, size) = (if number < 0 { "-" } else { "" }, number.unsigned_abs());
+    format!("{minus}{}.{}", size / 10, size % 10)
+}
+
+/// What the field takes.
+impl fmt::Display for Rule {
+    fn fmt(&self, f: &mut fmt::Formatter) -> fmt::Result {
+        match *self {
+            Name => f.write_str("text whose first column is not blank"),
+            Whole { least, most } => write!(f, "whole number, {least} to {most}"),
+            WholeOrBlank { least, most } => {
+                write!(f, "whole number, {least} to {most}, may be blank")
+            }
+            Decimal { least, most } => {
+                let ends = [tenths(least), tenths(most)];
+                write!(f, "decimal, {} to {}, ", ends[0], ends[1])?;
+                write!(f, "or tenths {least} to {most} without a point")
+            }
+            Coordinate => f.write_str("decimal, or tenths without a point"),
+            WaterDepth => f.write_str("0.0 to 99.9, or whole metres 0 to 999, may be blank"),
+            OneToNine => f.write_str("1 to 9, blank is 1"),
+            Code => f.write_str("one of these codes"),
+            Time => f.write_str("hhmmss, 000000 to 235959, minutes and seconds below 60"),
+            HeaderType => f.write_str("two digits"),
+            AfterType => f.write_str("a blank or a digit"),
+        }
+    }
 }

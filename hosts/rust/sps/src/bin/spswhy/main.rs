@@ -1,10 +1,10 @@
 //! Says of three files whether they are an SPS set, or of one whether it is well formed, and
-//! if not, why: the verdict on standard output, the reason and the line on standard error.
+//! if not, why: the verdict on standard output, the message on standard error.
 //!
-//! All it knows of files and sets is what the proved calls say. `files` reads the files,
-//! `reason` puts a refusal into words, `fields` names the field that a column starts,
-//! `codes` has the families of codes, `tables` what the header names, `shots` the shot that a
-//! relation line names, `text` the characters of a line, `looks` what a file looks like.
+//! All it knows of files and sets is what the proved calls say. `files` reads the files. Of a
+//! refusal `reasons` looks for what it is about, in words of the table in `rows`, and `message`
+//! puts them together; `fields`, `codes` and `text` have what stands in a line, `looks` what a
+//! file looks like.
 
 #![forbid(unsafe_code)]
 
@@ -12,22 +12,26 @@ mod codes;
 mod fields;
 mod files;
 mod looks;
-mod reason;
-mod shots;
-mod tables;
+mod message;
+mod reasons;
+mod rows;
 mod text;
+mod words;
 
 use files::Judged;
+use message::Message;
 use sps::File::{R, S, X};
 use sps::{Medium, Refusal, Set};
 use std::ffi::{OsStr, OsString};
 use std::fmt::Display;
 use std::io::{self, Write};
+use std::path::Path;
 use std::process::ExitCode;
 
 const HELP: &str = "\
 usage: spswhy [--tape] R S X
        spswhy [--tape] --kind LETTER FILE
+       spswhy --messages
 
 Checks the SPS set of the files R (receivers), S (shots) and X (relations), lines of
 80 columns, CR and LF. With --kind it checks the form of one file without the others: the
@@ -38,9 +42,11 @@ its first columns. Prints one line on standard output, for one file without coun
     ACCEPTED receivers shots relation-lines traces dead-traces
     REFUSED number file line column
 
-A refusal is the first breach. Its reason and its line, with a mark under the column,
-go to standard error; the line of a tape is shown translated. Files that look like the
-other medium are named there too, and judged as they are asked to be.
+A refusal is the first breach. Standard error says why: the place as path:line:column:,
+the rule that is breached, what was found and what would be right, the line with a mark
+under the column, and the other lines that the rule is about. The line of a tape is shown
+translated. Files that look like the other medium are named there too, and judged as they
+are asked to be. --messages prints the table of all messages.
 
 Status 0: accepted. 1: refused. 2: no verdict, since a file could not be read, the
 arguments are others than these, or the verdict could not be written.
@@ -58,6 +64,7 @@ fn main() -> ExitCode {
     };
     let status = match words {
         [word] if word == "--help" || word == "-h" => print(HELP).map(|()| ACCEPTED),
+        [word] if word == "--messages" => print(rows::table()).map(|()| ACCEPTED),
         [word, words @ ..] if word == "--kind" => one_file(medium, words),
         [r, s, x] => set(medium, r, s, x),
         _ => Err("three files are needed: R, S and X, or one with --kind; --help says more".into()),
@@ -77,32 +84,28 @@ fn one_file(medium: Medium, words: &[OsString]) -> Result<u8, String> {
     let Some(kind) = [R, S, X].into_iter().find(|kind| *letter == *kind.to_string()) else {
         return Err(format!("a kind is R, S or X, and not {letter:?}; --help says more"));
     };
-    let file = Judged::read(medium, kind, name)?;
+    let file = Judged::read(medium, kind, Path::new(name))?;
     let verdict = sps::form(medium, kind, &file.bytes).map(|()| "ACCEPTED");
-    report(medium, verdict, &[file])
+    report(verdict, &[file])
 }
 
 /// Reads three files and has them cross-checked.
 fn set(medium: Medium, r: &OsStr, s: &OsStr, x: &OsStr) -> Result<u8, String> {
-    let read = |kind, name| Judged::read(medium, kind, name);
+    let read = |kind, name| Judged::read(medium, kind, Path::new(name));
     let files = [read(R, r)?, read(S, s)?, read(X, x)?];
     let [r, s, x] = &files;
     let verdict = Set::new(medium, &r.bytes, &s.bytes, &x.bytes).cross();
-    report(medium, verdict, &files)
+    report(verdict, &files)
 }
 
 /// Prints a verdict, and says why the files are refused.
-fn report(
-    medium: Medium,
-    verdict: Result<impl Display, Refusal>,
-    files: &[Judged],
-) -> Result<u8, String> {
+fn report(verdict: Result<impl Display, Refusal>, files: &[Judged]) -> Result<u8, String> {
     match verdict {
         Ok(accepted) => print(format_args!("{accepted}\n")).map(|()| ACCEPTED),
         Err(refusal) => {
             print(format_args!("{refusal}\n"))?;
-            say(reason::of(medium, &refusal, files));
-            say(looks::like_other(medium, files));
+            say(Message::of(refusal, files));
+            say(looks::like_other(files));
             Ok(REFUSED)
         }
     }

@@ -43,3 +43,21 @@ fn translated(byte: u8) -> u8 {
         _ => OTHER,
     }
 }
+
+/// Control bytes by their names, from 0.
+const CONTROLS: [&str; 32] = [
+    "NUL", "SOH", "STX", "ETX", "EOT", "ENQ", "ACK", "BEL", "BS", "TAB", "LF", "VT", "FF", "CR",
+    "SO", "SI", "DLE", "DC1", "DC2", "DC3", "DC4", "NAK", "SYN", "ETB", "CAN", "EM", "Ctrl-Z",
+    "ESC", "FS", "GS", "RS", "US",
+];
+
+/// A byte by name and number, or by its number in hexadecimal.
+pub fn byte_name(medium: Medium, byte: u8) -> String {
+    match (medium, byte) {
+        (Medium::Disc, 32) => "a blank (32)".to_owned(),
+        (Medium::Disc, 33..=126) => format!("\"{}\" ({byte})", char::from(byte)),
+        (Medium::Disc, 127) => "DEL (127)".to_owned(),
+        (Medium::Disc, 0..=31) => format!("{} ({byte})", CONTROLS[usize::from(byte)]),
+        _ => format!("0x{byte:02X}"),
+    }
+}
