@@ -4,6 +4,7 @@
 mod program;
 
 mod codes;
+mod folders;
 mod killed;
 mod large;
 mod message;

@@ -63,10 +63,71 @@ fn other_words() {
     no_verdict(&folder, &["set.r01"], needed);
     no_verdict(&folder, &["set.r01", "set.s01"], needed);
     no_verdict(&folder, &["set.r01", "set.s01", "set.x01", "set.x01"], needed);
-    no_verdict(&folder, &["--version"], needed);
     no_verdict(&folder, &["--tape"], needed);
     no_verdict(&folder, &["--tape", "set.r01", "set.s01"], needed);
     no_verdict(&folder, &["set.r01", "set.s01", "set.x01", "--tape"], needed);
+    no_verdict(&folder, &["--"], needed);
+    no_verdict(&folder, &["--tape", "--", "set.r01"], needed);
+    for word in ["--jsn", "--version=1", "---"] {
+        no_verdict(&folder, &[word, "set.r01", "set.s01"], &format!("{word} is no option here"));
+    }
+}
+
+/// `--` ends the options: what follows are names, also such as look like options.
+#[test]
+fn end_of_options() {
+    let folder = prepared("end_of_options");
+    let accepted = (Some(0), "ACCEPTED 3 1 1 3 0\n".to_owned(), String::new());
+    assert_eq!(said(spswhy(&folder, &["--", "set.r01", "set.s01", "set.x01"])), accepted);
+    for (name, other) in NAMES.into_iter().zip(["--tape", "-", "--kind"]) {
+        fs::rename(folder.join(name), folder.join(other)).expect("a file");
+    }
+    assert_eq!(said(spswhy(&folder, &["--", "--tape", "-", "--kind"])), accepted);
+    let one = said(spswhy(&folder, &["--kind", "S", "--", "-"]));
+    assert_eq!(one, (Some(0), "ACCEPTED\n".to_owned(), String::new()));
+    no_verdict(&folder, &["--", "--", "-", "--kind"], "-- cannot be read: No such file");
+}
+
+#[test]
+fn standard_input() {
+    let folder = prepared("standard_input");
+    let words =
+        "standard input is not read: its length is not known before its end; write it to a \
+                 file and give the name\n";
+    for at in 0..3 {
+        let mut names = NAMES;
+        names[at] = "-";
+        no_verdict(&folder, &names, words);
+        no_verdict(&folder, &["--kind", ["R", "S", "X"][at], "-"], words);
+    }
+    no_verdict(&folder, &["-"], words);
+    no_verdict(&folder, &["--tape", "-"], words);
+}
+
+/// A compressed file is not judged where its name says so; another file of such a name is.
+#[test]
+fn compressed_files() {
+    let folder = prepared("compressed_files");
+    for (name, bytes) in [("a.r01.gz", &b"\x1F\x8B\x08"[..]), ("B.GZ", b"\x1F\x8B")] {
+        fs::write(folder.join(name), bytes).expect("a file");
+        let words = format!("{name} is compressed (gzip): unpack it, then give the file\n");
+        no_verdict(&folder, &[name, "set.s01", "set.x01"], &words);
+        no_verdict(&folder, &["--tape", "--kind", "X", name], &words);
+    }
+    fs::write(folder.join("a.r01.gz"), set_a().r).expect("a file");
+    let (status, verdict, _) = said(spswhy(&folder, &["a.r01.gz", "set.s01", "set.x01"]));
+    assert_eq!((status, verdict.as_str()), (Some(0), "ACCEPTED 3 1 1 3 0\n"));
+    fs::write(folder.join("set.r01"), b"\x1F\x8B\x08").expect("a file");
+    let (status, verdict, reason) = said(spswhy(&folder, &NAMES));
+    assert_eq!((status, verdict.as_str()), (Some(1), "REFUSED 1 R 1 0\n"));
+    assert!(reason.contains("The file is compressed (gzip)"), "{reason}");
+}
+
+#[test]
+fn version() {
+    let (status, version, why) = said(spswhy(&folder("version"), &["--version"]));
+    let expected = format!("spswhy {}\n", env!("CARGO_PKG_VERSION"));
+    assert_eq!((status, version, why.as_str()), (Some(0), expected, ""));
 }
 
 /// A kind is a letter and takes one file; where it is none, no file is looked at.
@@ -94,8 +155,7 @@ fn help() {
     for word in ["--help", "-h"] {
         let (status, help, why) = said(spswhy(&folder, &[word]));
         assert_eq!((status, why.as_str()), (Some(0), ""));
-        let usage = "usage: spswhy [--tape] R S X\n       spswhy [--tape] --kind LETTER FILE\n";
-        assert!(help.starts_with(usage), "{help}");
+        assert!(help.starts_with("usage: spswhy [--tape] R S X\n"), "{help}");
     }
 }
 

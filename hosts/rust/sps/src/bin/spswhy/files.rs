@@ -33,6 +33,10 @@ impl Judged {
     pub fn read(medium: Medium, kind: File, path: &Path) -> Result<Judged, String> {
         let unread = |error| format!("{} cannot be read: {error}", path.display());
         let (bytes, length) = bytes(path, width(medium) as u64).map_err(unread)?;
+        if is_packed(path) && bytes.starts_with(&GZIP) {
+            let path = path.display();
+            return Err(format!("{path} is compressed (gzip): unpack it, then give the file"));
+        }
         Ok(Judged { medium, kind, path: path.to_owned(), bytes, length })
     }
 
@@ -99,6 +103,11 @@ fn width(medium: Medium) -> usize {
         Medium::Disc => 82,
         Medium::Tape => 80,
     }
+}
+
+/// Whether a name is that of a compressed file.
+pub fn is_packed(path: &Path) -> bool {
+    path.extension().is_some_and(|ending| ending.eq_ignore_ascii_case("gz"))
 }
 
 /// What is read of a file, and its length.

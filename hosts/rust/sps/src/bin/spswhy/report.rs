@@ -1,0 +1,102 @@
+//! What is written: verdicts on standard output, messages on standard error.
+
+use crate::asked::{Judge, What};
+use crate::judge::{self, Judgement};
+use crate::looks;
+use crate::message::Message;
+use crate::progress::Progress;
+use crate::words::counted;
+use std::fmt::Display;
+use std::io::{self, Write};
+use std::path::{Path, PathBuf};
+
+pub const ACCEPTED: u8 = 0;
+pub const REFUSED: u8 = 1;
+pub const NO_VERDICT: u8 = 2;
+
+/// Judges what is asked, writes what is found, and answers the status.
+pub fn report(Judge { medium, what }: Judge) -> Result<u8, String> {
+    match what {
+        What::File(kind, path) => one(judge::file(medium, kind, &path)),
+        What::Set(paths) => one(judge::set(medium, &paths)),
+        What::Folders(folders) => match folders.as_slice() {
+            [folder] => one(judge::folder(medium, folder)),
+            folders => many(folders, |folder| judge::folder(medium, folder)),
+        },
+    }
+}
+
+fn status(found: &Result<Judgement, String>) -> u8 {
+    match found {
+        Ok(judgement) if judgement.verdict.is_ok() => ACCEPTED,
+        Ok(_) => REFUSED,
+        Err(_) => NO_VERDICT,
+    }
+}
+
+/// One set or file. Where it could not be read the caller says why.
+fn one(found: Result<Judgement, String>) -> Result<u8, String> {
+    let status = status(&found);
+    let judgement = found?;
+    print(format_args!("{}\n", judgement.line()))?;
+    explain(&judgement);
+    Ok(status)
+}
+
+/// Folders one after another, then how many were accepted, refused or not judged.
+fn many(
+    folders: &[PathBuf],
+    judge: impl Fn(&Path) -> Result<Judgement, String>,
+) -> Result<u8, String> {
+    let mut tally = [0; 3];
+    let mut progress = Progress::new();
+    for (done, folder) in folders.iter().enumerate() {
+        progress.tell(done, folders.len());
+        let found = judge(folder);
+        let status = status(&found);
+        tally[usize::from(status)] += 1;
+        progress.clear();
+        line_of(folder, &found)?;
+    }
+    let [accepted, refused, none] = tally;
+    let all = counted(folders.len() as u64, "folder");
+    say(format_args!("{all}: {accepted} accepted, {refused} refused, {none} without verdict\n"));
+    let worst = (0..=NO_VERDICT).rev().find(|status| tally[usize::from(*status)] > 0);
+    Ok(worst.unwrap_or(ACCEPTED))
+}
+
+/// The line of one of several folders, and its message.
+fn line_of(folder: &Path, found: &Result<Judgement, String>) -> Result<(), String> {
+    let folder = folder.display();
+    match found {
+        Ok(judgement) => {
+            print(format_args!("{folder}: {}\n", judgement.line()))?;
+            explain(judgement);
+        }
+        Err(why) => {
+            print(format_args!("{folder}: NO VERDICT\n"))?;
+            say(format_args!("spswhy: {why}\n"));
+        }
+    }
+    Ok(())
+}
+
+/// Says why files are refused.
+fn explain(Judgement { files, verdict }: &Judgement) {
+    if let Err(refusal) = *verdict {
+        say(Message::of(refusal, files));
+        say(looks::like_other(files));
+    }
+}
+
+/// Writes to standard output.
+pub fn print(text: impl Display) -> Result<(), String> {
+    let mut out = io::stdout().lock();
+    let written = write!(out, "{text}").and_then(|()| out.flush());
+    written.map_err(|error| format!("standard output cannot be written: {error}"))
+}
+
+/// Writes to standard error; where that cannot be written nobody reads it.
+pub fn say(text: impl Display) {
+    let _ = write!(io::stderr().lock(), "{text}");
+}
