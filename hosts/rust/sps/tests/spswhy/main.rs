@@ -5,6 +5,7 @@ mod program;
 
 mod codes;
 mod folders;
+mod json;
 mod killed;
 mod large;
 mod message;

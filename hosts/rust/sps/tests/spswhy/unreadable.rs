@@ -155,7 +155,7 @@ fn help() {
     for word in ["--help", "-h"] {
         let (status, help, why) = said(spswhy(&folder, &[word]));
         assert_eq!((status, why.as_str()), (Some(0), ""));
-        assert!(help.starts_with("usage: spswhy [--tape] R S X\n"), "{help}");
+        assert!(help.starts_with("usage: spswhy [--tape] [--json] R S X\n"), "{help}");
     }
 }
 

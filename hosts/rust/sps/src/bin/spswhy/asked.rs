@@ -13,9 +13,10 @@ pub enum Asked {
     Judge(Judge),
 }
 
-/// What is judged, and on which medium.
+/// What is judged, on which medium, and whether a program reads the answer.
 pub struct Judge {
     pub medium: Medium,
+    pub json: bool,
     pub what: What,
 }
 
@@ -30,21 +31,22 @@ const NEEDED: &str = "three files are needed: R, S and X, or one with --kind, or
 
 /// Options stand before the names; `--` ends them.
 pub fn asked(words: &[OsString]) -> Result<Asked, String> {
-    let (mut medium, mut words) = (Medium::Disc, words);
+    let (mut medium, mut json, mut words) = (Medium::Disc, false, words);
     loop {
         let Some((word, rest)) = words.split_first() else { return Err(NEEDED.to_owned()) };
         match word.to_str() {
             Some("--tape") => medium = Medium::Tape,
+            Some("--json") => json = true,
             Some("--help" | "-h") if rest.is_empty() => return Ok(Asked::Help),
             Some("--version") if rest.is_empty() => return Ok(Asked::Version),
             Some("--messages") if rest.is_empty() => return Ok(Asked::Messages),
             Some("--kind") => {
                 let what = one_file(rest)?;
-                return Ok(Asked::Judge(Judge { medium, what }));
+                return Ok(Asked::Judge(Judge { medium, json, what }));
             }
             _ => {
                 let what = names(words)?;
-                return Ok(Asked::Judge(Judge { medium, what }));
+                return Ok(Asked::Judge(Judge { medium, json, what }));
             }
         }
         words = rest;

@@ -44,6 +44,10 @@ impl Judged {
         self.path.display()
     }
 
+    pub fn path(&self) -> &Path {
+        &self.path
+    }
+
     pub fn width(&self) -> usize {
         width(self.medium)
     }

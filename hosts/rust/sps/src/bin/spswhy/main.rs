@@ -5,7 +5,7 @@
 //! command, `files` and `folders` find and read the files, `judge` has them judged. Of a refusal
 //! `reasons` looks for what it is about, in words of the table in `rows`, and `message` puts them
 //! together; `fields`, `codes` and `text` have what stands in a line, `looks` what a file looks
-//! like. `report` writes it all.
+//! like. `report` writes it all, as lines or as `json`.
 
 #![forbid(unsafe_code)]
 
@@ -15,6 +15,7 @@ mod fields;
 mod files;
 mod folders;
 mod help;
+mod json;
 mod judge;
 mod looks;
 mod message;

@@ -2,10 +2,10 @@
 
 use crate::asked::{Judge, What};
 use crate::judge::{self, Judgement};
-use crate::looks;
 use crate::message::Message;
 use crate::progress::Progress;
 use crate::words::counted;
+use crate::{json, looks};
 use std::fmt::Display;
 use std::io::{self, Write};
 use std::path::{Path, PathBuf};
@@ -15,13 +15,13 @@ pub const REFUSED: u8 = 1;
 pub const NO_VERDICT: u8 = 2;
 
 /// Judges what is asked, writes what is found, and answers the status.
-pub fn report(Judge { medium, what }: Judge) -> Result<u8, String> {
+pub fn report(Judge { medium, json, what }: Judge) -> Result<u8, String> {
     match what {
-        What::File(kind, path) => one(judge::file(medium, kind, &path)),
-        What::Set(paths) => one(judge::set(medium, &paths)),
+        What::File(kind, path) => one(json, None, judge::file(medium, kind, &path)),
+        What::Set(paths) => one(json, None, judge::set(medium, &paths)),
         What::Folders(folders) => match folders.as_slice() {
-            [folder] => one(judge::folder(medium, folder)),
-            folders => many(folders, |folder| judge::folder(medium, folder)),
+            [folder] => one(json, Some(folder), judge::folder(medium, folder)),
+            folders => many(json, folders, |folder| judge::folder(medium, folder)),
         },
     }
 }
@@ -35,8 +35,12 @@ fn status(found: &Result<Judgement, String>) -> u8 {
 }
 
 /// One set or file. Where it could not be read the caller says why.
-fn one(found: Result<Judgement, String>) -> Result<u8, String> {
+fn one(json: bool, folder: Option<&Path>, found: Result<Judgement, String>) -> Result<u8, String> {
     let status = status(&found);
+    if json {
+        print(format_args!("{}\n", json::object(folder, status, &found)))?;
+        return Ok(status);
+    }
     let judgement = found?;
     print(format_args!("{}\n", judgement.line()))?;
     explain(&judgement);
@@ -45,6 +49,7 @@ fn one(found: Result<Judgement, String>) -> Result<u8, String> {
 
 /// Folders one after another, then how many were accepted, refused or not judged.
 fn many(
+    json: bool,
     folders: &[PathBuf],
     judge: impl Fn(&Path) -> Result<Judgement, String>,
 ) -> Result<u8, String> {
@@ -56,11 +61,19 @@ fn many(
         let status = status(&found);
         tally[usize::from(status)] += 1;
         progress.clear();
-        line_of(folder, &found)?;
+        if json {
+            print(format_args!("{}\n", json::object(Some(folder), status, &found)))?;
+        } else {
+            line_of(folder, &found)?;
+        }
     }
-    let [accepted, refused, none] = tally;
-    let all = counted(folders.len() as u64, "folder");
-    say(format_args!("{all}: {accepted} accepted, {refused} refused, {none} without verdict\n"));
+    if !json {
+        let [accepted, refused, none] = tally;
+        let all = counted(folders.len() as u64, "folder");
+        say(format_args!(
+            "{all}: {accepted} accepted, {refused} refused, {none} without verdict\n"
+        ));
+    }
     let worst = (0..=NO_VERDICT).rev().find(|status| tally[usize::from(*status)] > 0);
     Ok(worst.unwrap_or(ACCEPTED))
 }
