@@ -1,5 +1,6 @@
 //! A message taken apart, and the table of messages in the docs.
 
+use crate::NAMES;
 use small_sets::Set;
 use std::fs;
 use std::path::{Path, PathBuf};
@@ -17,6 +18,7 @@ pub struct Message {
 pub struct Other {
     pub path: String,
     pub line: u32,
+    pub column: u8,
     pub what: String,
     pub text: String,
 }
@@ -42,7 +44,9 @@ impl Message {
         let (path, line, column, words) = place(lines[0]).expect(said);
         let words = words.strip_prefix("refused with ").expect(said);
         let (number, rule) = words.split_once(": ").expect(said);
-        let is_other = |text: &&str| place(text).is_some_and(|of| of.0.starts_with("set."));
+        let is_other = |text: &&str| {
+            place(text).is_some_and(|of| NAMES.iter().any(|name| of.0.ends_with(name)))
+        };
         let (end, text) = match column {
             0 => (lines[1..].iter().position(is_other).map_or(lines.len(), |at| at + 1), None),
             _ => {
@@ -67,7 +71,7 @@ fn other(lines: &[&str], said: &str) -> Other {
     let (path, line, column, what) = place(first).expect(said);
     assert_eq!(**below, *mark(column), "{said}");
     let [path, what, text] = [path, what, text].map(str::to_owned);
-    Other { path, line, what, text }
+    Other { path, line, column, what, text }
 }
 
 /// A row of the table: what is said of a rule.

@@ -42,8 +42,13 @@ pub fn grouped(number: u64) -> String {
 
 /// So many things, by the name of one.
 pub fn counted(number: u64, one: &str) -> String {
+    format!("{} {}", grouped(number), plural(number, one))
+}
+
+/// The name of so many things.
+pub fn plural(number: u64, one: &str) -> String {
     let more = if number == 1 { "" } else { "s" };
-    format!("{} {one}{more}", grouped(number))
+    format!("{one}{more}")
 }
 
 /// Things one after another, with "and" before the last.

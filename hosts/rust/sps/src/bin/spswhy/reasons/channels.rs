@@ -3,7 +3,7 @@
 use super::stations::number;
 use super::{Case, Told};
 use crate::rows::form::*;
-use crate::words::counted;
+use crate::words::plural;
 
 pub fn disagree<'a>(case: &Case<'a>) -> Option<Told<'a>> {
     let text = case.text()?;
@@ -21,10 +21,13 @@ pub fn disagree<'a>(case: &Case<'a>) -> Option<Told<'a>> {
         return Some(Told::of(NO_MULTIPLE, [found]));
     }
     let [first, last] = [number(text.get(63..71)?)?, number(text.get(71..79)?)?];
+    let receivers = channels.checked_div(increment)?;
     let found = CHANNELS_AND_RECEIVERS.with(&[
-        &counted(channels, "channel").replace(',', ""),
+        &channels,
+        &plural(channels, "channel"),
         &increment,
-        &counted(channels.checked_div(increment)?, "receiver").replace(',', ""),
+        &receivers,
+        &plural(receivers, "receiver"),
         &first,
         &last,
         &(first.abs_diff(last) + 1),

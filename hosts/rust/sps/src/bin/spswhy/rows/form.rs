@@ -78,8 +78,9 @@ pub const CHANNELS_BY: Words =
     Words("channels {from} to {to} are {channels}, which is no multiple of {increment}");
 pub const OTHER_RECEIVERS: Words =
     Words("the channels do not lead to as many receivers as are named");
-pub const CHANNELS_AND_RECEIVERS: Words =
-    Words("{channels} by {increment} are {receivers}; {from} to {to} are {number}");
+pub const CHANNELS_AND_RECEIVERS: Words = Words(
+    "{number} {channels} by {increment} are {number} {receivers}; {from} to {to} are {number}",
+);
 
 pub const NO_END: Words = Words("no EOF record ends the tape");
 pub const NONE_WITH_EOF: Words = Words("{records}, none with EOF in columns 1 to 3; needs one");

@@ -1,0 +1,168 @@
+//! 1 to 4, 6 and 29.
+
+use super::facts::{counted, text};
+use super::made::Refused;
+use super::Claims;
+use crate::message::{shown, Message};
+use small_sets::{File, Medium};
+
+/// 1: the numbers, and of a disc file the line that is none.
+pub fn length(refused: &Refused, message: &Message) {
+    let bytes = refused.set.file(refused.file);
+    let width = refused.set.medium.width();
+    let of = match refused.set.medium {
+        Medium::Disc => "line",
+        Medium::Tape => "record",
+    };
+    let (lines, more) = (counted(bytes.len() / width, of), bytes.len() % width);
+    let all = counted(bytes.len(), "byte");
+    let expected = format!("{all} are {lines} of {width} and {more} more");
+    let [found] = &message.found[..] else { panic!("{:?}", message.found) };
+    let mut sentences = found.split(". ");
+    assert_eq!(sentences.next(), Some(&*expected));
+    sentences.for_each(|sentence| looks(bytes, sentence));
+}
+
+/// What a sentence says of a file's lines, as LF ends them.
+fn looks(bytes: &[u8], sentence: &str) {
+    let lines: Vec<&[u8]> = bytes.split_inclusive(|byte| *byte == b'\n').collect();
+    if sentence == "The last byte is Ctrl-Z (26), which must go" {
+        return assert_eq!(bytes.last(), Some(&26));
+    }
+    let rest = sentence.strip_prefix("Line ").unwrap_or_else(|| panic!("{sentence}"));
+    let number = rest.split([' ', ',']).next().and_then(|number| number.parse::<usize>().ok());
+    let number = number.expect("the number of a line");
+    let line = lines[number - 1];
+    let is_one = |line: &&[u8]| line.len() == 82 && line.ends_with(b"\r\n");
+    assert_eq!(lines.iter().position(|line| !is_one(line)), Some(number - 1), "{sentence}");
+    let columns = |number: usize| counted(number, "column");
+    let expected = match line {
+        [.., b'\r', b'\n'] => {
+            format!("has {} and not 80 before CR and LF", columns(line.len() - 2))
+        }
+        [.., b'\n'] => "ends in LF without CR (Unix line ends)".to_owned(),
+        _ if line.contains(&b'\r') => "ends in CR without LF".to_owned(),
+        _ => {
+            let text = line.iter().rev().skip_while(|byte| **byte == 26).count();
+            format!("the last, has {} and no CR and LF", columns(text))
+        }
+    };
+    assert!(rest.contains(&expected), "{sentence}: {expected}");
+}
+
+/// 2: how many lines there are.
+pub fn lines(refused: &Refused, message: &Message) {
+    let lines = refused.set.lines(refused.file);
+    let expected = match refused.set.medium {
+        Medium::Disc => format!("{}; at most 9,999 are taken", counted(lines, "line")),
+        Medium::Tape => {
+            let records = counted(lines, "record");
+            format!("{records}, the EOF record among them; at most 9,999 are taken")
+        }
+    };
+    assert_eq!(message.found, [expected]);
+}
+
+/// 3: the byte, by its number, and what the column takes.
+pub fn byte(refused: &Refused, message: &Message) {
+    let Refused { set, file, line, column, .. } = refused;
+    let byte = set.file(*file)[set.start(*line as usize) + usize::from(*column) - 1];
+    let number = match (set.medium, byte) {
+        (Medium::Disc, 0..=127) => format!(" ({byte}); "),
+        _ => format!("found 0x{byte:02X}; "),
+    };
+    let needs = match (set.medium, column) {
+        (Medium::Tape, _) => "taken are, in code page 037, a blank, ",
+        (Medium::Disc, 81) => "needs CR (13)",
+        (Medium::Disc, 82) => "needs LF (10)",
+        (Medium::Disc, _) => "columns 1 to 80 take bytes 32 to 126",
+    };
+    let [found, looks @ ..] = &message.found[..] else { panic!("{:?}", message.found) };
+    assert!(found.starts_with(&format!("column {column}: found ")), "{found}");
+    assert!(found.contains(&(number + needs)), "{found}");
+    looks.iter().for_each(|sentence| self::looks(set.file(*file), sentence));
+}
+
+/// The first line of a file that is no header line, and its letter.
+fn first_data(refused: &Refused, file: File) -> Option<(u32, String)> {
+    let lines = 1..=refused.set.lines(file) as u32;
+    let mut texts = lines.map(|line| (line, shown(&refused.set, file as u8, line)));
+    texts.find(|(_, text)| !text.starts_with('H')).map(|(line, text)| (line, text[..1].to_owned()))
+}
+
+pub fn letter(refused: &Refused) -> Claims {
+    let own = &text(refused)[..1];
+    let (line, first) = first_data(refused, refused.file).expect("a line that is no header line");
+    let letter = refused.file.letter();
+    if own == "H" {
+        let found = format!("column 1: found \"H\"; below line {line} needs {letter}");
+        return Claims::of([found]).beside(refused.file, line, 1);
+    }
+    if line < refused.line {
+        return Claims::of([format!("column 1: found \"{own}\"; needs {letter}")]);
+    }
+    let found = format!("column 1: found \"{first}\"; needs H or {letter}");
+    if !["R", "S", "X"].contains(&own) {
+        return Claims::of([found]);
+    }
+    let letters =
+        File::ALL.map(|file| first_data(refused, file).map_or("none".to_owned(), |of| of.1));
+    let [r, s, x] = letters;
+    let order = format!(
+        "the files begin with lines of {r}, {s} and {x}; needed are R, S and X, in this order"
+    );
+    Claims::of([found, format!("this looks like an {own} file"), order])
+}
+
+/// The number in some columns of a line; a blank column is 1.
+fn number(text: &str, first: usize, last: usize) -> u32 {
+    match text[first - 1..last].trim() {
+        "" => 1,
+        digits => digits.parse().expect("a number"),
+    }
+}
+
+pub fn channels(refused: &Refused) -> Claims {
+    let text = text(refused);
+    let [from, to, increment] = [(39, 42), (43, 46), (47, 47)].map(|(a, b)| number(&text, a, b));
+    let [first, last] = [(64, 71), (72, 79)].map(|(a, b)| number(&text, a, b));
+    let many =
+        |number: u32, one: &str| format!("{number} {one}{}", if number == 1 { "" } else { "s" });
+    Claims::of([match refused.column {
+        39 => {
+            assert!(from > to);
+            format!("channels {from} to {to}: {from} is above {to}")
+        }
+        47 => {
+            assert_ne!((to - from + 1) % increment, 0);
+            let channels = to - from + 1;
+            format!("channels {from} to {to} are {channels}, which is no multiple of {increment}")
+        }
+        _ => {
+            let (channels, receivers) = (to - from + 1, (to - from + 1) / increment);
+            let named = first.max(last) - first.min(last) + 1;
+            assert_ne!(receivers, named);
+            let [channels, receivers] = [many(channels, "channel"), many(receivers, "receiver")];
+            format!("{channels} by {increment} are {receivers}; {first} to {last} are {named}")
+        }
+    }])
+}
+
+pub fn end(refused: &Refused) -> Claims {
+    let records = refused.set.lines(refused.file) as u32;
+    let texts = (1..=records).map(|line| (line, shown(&refused.set, refused.file as u8, line)));
+    let many = |number: u32| counted(number as usize, "record");
+    match texts.into_iter().find(|(_, text)| text.starts_with("EOF")) {
+        None => {
+            let records = many(records);
+            Claims::of([format!("{records}, none with EOF in columns 1 to 3; needs one")])
+        }
+        Some((end, _)) => {
+            let more = many(records - end);
+            let found = format!(
+                "record {end} has EOF in columns 1 to 3 and must be the last; behind it: {more}"
+            );
+            Claims::of([found]).beside(refused.file, end, 1)
+        }
+    }
+}
