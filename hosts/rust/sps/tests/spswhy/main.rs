@@ -3,6 +3,7 @@
 #[path = "../common/program.rs"]
 mod program;
 
+mod any_bytes;
 mod claims;
 mod codes;
 mod folders;

@@ -4,7 +4,7 @@ use crate::asked::{Judge, What};
 use crate::judge::{self, Judgement};
 use crate::message::Message;
 use crate::progress::Progress;
-use crate::words::counted;
+use crate::words::plural;
 use crate::{json, looks};
 use std::fmt::Display;
 use std::io::{self, Write};
@@ -69,9 +69,9 @@ fn many(
     }
     if !json {
         let [accepted, refused, none] = tally;
-        let all = counted(folders.len() as u64, "folder");
+        let (all, of) = (folders.len(), plural(folders.len() as u64, "folder"));
         say(format_args!(
-            "{all}: {accepted} accepted, {refused} refused, {none} without verdict\n"
+            "{all} {of}: {accepted} accepted, {refused} refused, {none} without verdict\n"
         ));
     }
     let worst = (0..=NO_VERDICT).rev().find(|status| tally[usize::from(*status)] > 0);

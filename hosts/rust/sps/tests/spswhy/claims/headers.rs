@@ -64,9 +64,9 @@ fn naming(text: &str) -> Option<(File, &str)> {
     let number: usize = text[1..4].parse().ok()?;
     let code = &text[32..34];
     let letters = match number {
-        600..=690 if number % 10 == 0 => (R, "GHR"),
-        700..=880 if number % 20 == 0 => (S, "VEAWS"),
-        400..=560 if number % 20 == 0 => (X, "123456789"),
+        600..=690 if number.is_multiple_of(10) => (R, "GHR"),
+        700..=880 if number.is_multiple_of(20) => (S, "VEAWS"),
+        400..=560 if number.is_multiple_of(20) => (X, "123456789"),
         _ => return None,
     };
     let digit = match letters.0 {

@@ -23,7 +23,7 @@ pub fn name(file: File) -> &'static str {
 }
 
 impl Refused {
-    fn of(set: Set) -> Option<Refused> {
+    pub fn of(set: Set) -> Option<Refused> {
         let refusal = naive::check(medium(&set), set.files()).err()?;
         let file = File::ALL[refusal.file? as usize];
         let naive::Refusal { number, line, column, .. } = refusal;
@@ -71,9 +71,9 @@ pub fn made() -> Vec<Refused> {
     refused.collect()
 }
 
-/// What is said of each on standard error, in one run a medium.
-pub fn said_of(refused: &[Refused]) -> Vec<String> {
-    let above = folder("claims");
+/// What is said of each on standard error, in one run a medium, in folders below one of a name.
+pub fn said_of(name: &str, refused: &[Refused]) -> Vec<String> {
+    let above = folder(name);
     for (at, refused) in refused.iter().enumerate() {
         fs::create_dir(above.join(at.to_string())).expect("a folder");
         write(&above.join(at.to_string()), &refused.set);

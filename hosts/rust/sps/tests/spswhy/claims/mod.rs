@@ -4,7 +4,7 @@ mod facts;
 mod fields;
 mod form;
 mod headers;
-mod made;
+pub mod made;
 mod points;
 mod relations;
 
@@ -64,7 +64,7 @@ const SENTENCES: [Sentences; 4] =
 fn of_made_sets() {
     let (rows, refused) = (Row::all(), made());
     let mut turns = BTreeMap::new();
-    for (refused, said) in refused.iter().zip(said_of(&refused)) {
+    for (refused, said) in refused.iter().zip(said_of("claims", &refused)) {
         let (message, path, line, column) = Message::read(&said);
         assert_eq!((message.number, line, column), (refused.number, refused.line, refused.column));
         assert!(path.ends_with(refused.name()), "{said}");
