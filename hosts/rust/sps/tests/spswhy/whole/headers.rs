@@ -224,6 +224,25 @@ X100     1112L1                   5011   1   31L1                   101     1031
 }
 
 #[test]
+fn an_instrument_of_no_table() {
+    let set = with(&[header_with(580, "2"), header_with(410, "2"), header_with(700, "2")]).put(
+        X,
+        below(4),
+        13,
+        "2",
+    );
+    let expected = "\
+set.x01:28:13: refused with 25: no code table in the header of R names this code
+instruments are named in columns 33 and 34 of H400, H420 to H560
+found 2; the header names these instruments:
+1  line 22, H400
+X100     1112L1                   5011   1   31L1                   101     1031
+            ^
+";
+    hold("headers_an_instrument_of_no_table", &set, "REFUSED 25 X 28 13", expected);
+}
+
+#[test]
 fn a_blank_instrument() {
     let set =
         set_a().each(|set, file| set.remove(file, header_line(400))).put(X, last_header(), 13, " ");

@@ -46,11 +46,34 @@ fn cut_blanks() {
     let expected = "\
 set.r01:1:4: refused with 3: a byte is none of those that columns 1 to 80 take
 column 4: found CR (13); columns 1 to 80 take bytes 32 to 126
-Line 1 has 3 columns and not 80 before CR and LF (trailing blanks are cut)
+Line 1 has 3 columns and not 80 before CR and LF (trailing blanks may be cut)
 H00??H01??H02??H03??H04??H05??H06??H07??H08??H09??H10??H11??H12??H13??H14??H15??
    ^
 ";
     hold("lengths_cut_blanks", &set, "REFUSED 3 R 1 4", expected);
+}
+
+#[test]
+fn cut_blanks_of_s() {
+    let set = bytes(S, |file| cut(file[82..].to_vec(), b"\r\n"));
+    let expected = "\
+set.s01:4:0: refused with 1: the length of the file is no multiple of 82 bytes, a line of 80 columns, CR and LF
+323 bytes are 3 lines of 82 and 77 more. Line 1 has 3 columns and not 80 before CR and LF (trailing blanks may be cut)
+";
+    hold("lengths_cut_blanks_of_s", &set, "REFUSED 1 S 4 0", expected);
+}
+
+#[test]
+fn a_line_of_79_columns() {
+    let set = bytes(R, |mut file| {
+        file.remove(24 * 82 + 20);
+        file
+    });
+    let expected = "\
+set.r01:27:0: refused with 1: the length of the file is no multiple of 82 bytes, a line of 80 columns, CR and LF
+2,213 bytes are 26 lines of 82 and 81 more. Line 25 has 79 columns and not 80 before CR and LF (trailing blanks may be cut)
+";
+    hold("lengths_a_line_of_79_columns", &set, "REFUSED 1 R 27 0", expected);
 }
 
 #[test]

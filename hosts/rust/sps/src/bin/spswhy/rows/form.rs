@@ -15,7 +15,7 @@ pub const CTRL_Z: Words = Words("The last byte is Ctrl-Z (26), which must go");
 pub const LF_ALONE: Words = Words("Line {line} ends in LF without CR (Unix line ends)");
 pub const CR_ALONE: Words = Words("Line {line} ends in CR without LF");
 pub const CUT_BLANKS: Words =
-    Words("Line {line} has {columns} and not 80 before CR and LF (trailing blanks are cut)");
+    Words("Line {line} has {columns} and not 80 before CR and LF (trailing blanks may be cut)");
 pub const OTHER_WIDTH: Words = Words("Line {line} has {columns} and not 80 before CR and LF");
 pub const NO_LINE_END: Words = Words("Line {line}, the last, has {columns} and no CR and LF");
 
