@@ -1,9 +1,10 @@
 //! Verdicts and reasons.
 
+use crate::claims::made::{said_of, Refused};
 use crate::message::{shown, Message, Other, Row};
-use crate::{folder, of, said, spswhy, words, write, NAMES};
+use crate::{folder, of, said, spswhy, write, NAMES};
 use small_sets::place::{below, first};
-use small_sets::{set_a, table, Answer, File, Question};
+use small_sets::{set_a, table, File, Question};
 use std::collections::{BTreeMap, BTreeSet};
 
 #[test]
@@ -48,36 +49,39 @@ pub fn last_two(text: &str) -> [&str; 2] {
     [line, mark]
 }
 
+/// The refused sets of the table: some of each number, medium and column, one that is large.
+fn refused() -> Vec<Refused> {
+    let cases = table().into_iter().filter(|case| case.question == Question::Cross);
+    let mut turns = BTreeMap::new();
+    let taken = cases.filter_map(|case| Refused::of(case.set)).filter(|of| {
+        let is_large = of.set.lines(of.file) > 1_000;
+        let turn = turns.entry((of.number, of.set.medium as u8, of.column)).or_insert(0);
+        *turn += 1;
+        *turn <= if is_large { 1 } else { 20 }
+    });
+    taken.collect()
+}
+
 /// Of every number that a set is refused for: the place, one of its rules in the table with its
 /// sentences, and the line with its mark where there is one; the other lines likewise. Every rule
 /// of the table is told.
 #[test]
 fn each_number() {
-    let folder = folder("each_number");
-    let (rows, mut rules, mut turns) = (Row::all(), BTreeSet::new(), BTreeMap::new());
-    for case in table().into_iter().filter(|case| case.question == Question::Cross) {
-        let Answer::Refused { number, file, line, column } = case.expected else { continue };
-        let medium = case.set.medium;
-        let of = File::ALL[usize::from(file) - 1];
-        let letter = case.set.file(of).get(case.set.start(line as usize)).copied();
-        let turn = turns.entry((number, medium as u8, column, letter)).or_insert(0);
-        *turn += 1;
-        if *turn > if number < 10 { 2 } else { 12 } {
-            continue;
-        }
-        write(&folder, &case.set);
-        let (status, verdict, reason) = said(spswhy(&folder, words(medium)));
-        assert_eq!((status, Some(verdict)), (Some(1), case.expected.verdict()), "{}", case.name);
-        let (message, path, at, mark) = Message::read(&reason);
-        let name = NAMES[usize::from(file) - 1];
-        assert_eq!((message.number, path.as_str(), at, mark), (number, name, line, column));
-        rules.insert((number, message.rule.clone()));
+    let (rows, refused) = (Row::all(), refused());
+    let mut rules = BTreeSet::new();
+    for (refused, said) in refused.iter().zip(said_of("each_number", &refused)) {
+        let Refused { set, number, file, line, column } = refused;
+        let (message, path, at, mark) = Message::read(&said);
+        assert!(path.ends_with(refused.name()), "{said}");
+        assert_eq!((message.number, at, mark), (*number, *line, *column));
         Row::of_message(&rows, &message).hold(&message);
-        let own = message.text.as_ref().map(|_| shown(&case.set, file, line));
-        assert_eq!((message.text.is_some(), message.text.map(cut)), (column > 0, own.map(cut)));
+        rules.insert((*number, message.rule));
+        let own = (*column > 0).then(|| cut(shown(set, *file as u8, *line)));
+        assert_eq!(message.text.map(cut), own);
         for Other { path, line, text, .. } in message.others {
-            let file = NAMES.iter().position(|name| *name == path).expect("a file") as u8 + 1;
-            assert_eq!(cut(text), cut(shown(&case.set, file, line)), "{reason}");
+            let file =
+                NAMES.iter().position(|name| path.ends_with(name)).expect("a file") as u8 + 1;
+            assert_eq!(cut(text), cut(shown(set, file, line)), "{said}");
         }
     }
     let told = rows.into_iter().map(|row| (row.number, row.rule));
