@@ -14,11 +14,13 @@ pub struct Progress {
     is_terminal: bool,
     began: Instant,
     told: Option<Instant>,
+    stands: bool,
 }
 
 impl Progress {
     pub fn new() -> Progress {
-        Progress { is_terminal: io::stderr().is_terminal(), began: Instant::now(), told: None }
+        let is_terminal = io::stderr().is_terminal();
+        Progress { is_terminal, began: Instant::now(), told: None, stands: false }
     }
 
     /// Says that so many of all are done.
@@ -37,13 +39,13 @@ impl Progress {
         if !self.is_terminal || !is_due {
             return None;
         }
-        self.told = Some(now);
+        (self.told, self.stands) = (Some(now), true);
         Some(format!("{CLEAR}{done} of {all} folders"))
     }
 
-    /// Clears the line before anything else is written.
-    pub fn clear(&self) {
-        if self.told.is_some() {
+    /// Clears the line where it stands, before anything else is written to the terminal.
+    pub fn clear(&mut self) {
+        if std::mem::take(&mut self.stands) {
             let _ = write!(io::stderr().lock(), "{CLEAR}");
         }
     }
@@ -57,13 +59,15 @@ mod tests {
     fn when_it_is_told() {
         let began = Instant::now();
         let after = |millis| began + Duration::from_millis(millis);
-        let mut terminal = Progress { is_terminal: true, began, told: None };
+        let mut terminal = Progress { is_terminal: true, began, told: None, stands: false };
         assert_eq!(terminal.line(after(999), 5, 200), None);
         let first = terminal.line(after(1_000), 6, 200);
         assert_eq!(first.as_deref(), Some("\r\x1B[K6 of 200 folders"));
+        assert!(terminal.stands);
         assert_eq!(terminal.line(after(1_099), 7, 200), None);
         assert!(terminal.line(after(1_100), 8, 200).is_some());
-        let mut file = Progress { is_terminal: false, began, told: None };
+        let mut file = Progress { is_terminal: false, began, told: None, stands: false };
         assert_eq!(file.line(after(5_000), 9, 200), None);
+        assert!(!file.stands);
     }
 }

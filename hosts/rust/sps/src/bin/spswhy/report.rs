@@ -7,7 +7,7 @@ use crate::progress::Progress;
 use crate::words::plural;
 use crate::{json, looks};
 use std::fmt::Display;
-use std::io::{self, Write};
+use std::io::{self, IsTerminal, Write};
 use std::path::{Path, PathBuf};
 
 pub const ACCEPTED: u8 = 0;
@@ -54,19 +54,22 @@ fn many(
     judge: impl Fn(&Path) -> Result<Judgement, String>,
 ) -> Result<u8, String> {
     let mut tally = [0; 3];
-    let mut progress = Progress::new();
+    let (mut progress, is_terminal) = (Progress::new(), io::stdout().is_terminal());
     for (done, folder) in folders.iter().enumerate() {
         progress.tell(done, folders.len());
         let found = judge(folder);
         let status = status(&found);
         tally[usize::from(status)] += 1;
-        progress.clear();
+        if is_terminal || (!json && status != ACCEPTED) {
+            progress.clear();
+        }
         if json {
             print(format_args!("{}\n", json::object(Some(folder), status, &found)))?;
         } else {
             line_of(folder, &found)?;
         }
     }
+    progress.clear();
     if !json {
         let [accepted, refused, none] = tally;
         let (all, of) = (folders.len(), plural(folders.len() as u64, "folder"));
