@@ -254,14 +254,7 @@ pub fn spread_bytes(
 
 // All traces of a set as rows: the cross-check's own answer, and of an accepted set the rows from trace `first` on in the places of a slice, as
 // many as it has whole. A refusal writes nothing.
-pub fn rows(
-    how: Reading,
-    r: &[u8],
-    s: &[u8],
-    x: &[u8],
-    first: u64,
-    places: &mut [u8],
-) -> SetAnswer
+pub fn rows(how: Reading, r: &[u8], s: &[u8], x: &[u8], first: u64, places: &mut [u8]) -> SetAnswer
     ensures answer { λ a. ⌜ setPaper a ≡ crossOn how (now (r .entry)) (now (s .entry)) (now (x .entry)) ⌝ }
     ensures written { λ _. ⌜ now (places .exit)
         ≡ tracesIn (sheetOf how (now (r .entry))) (sheetOf how (now (s .entry))) (sheetOf how (now (x .entry))) first (now (places .entry)) ⌝ }
@@ -270,14 +263,6 @@ pub fn rows(
     if let SetAnswer::Refused(_, _, _, _) = a {
         return a;
     }
-    rows::fill(
-        Wanted {
-            how,
-            first,
-        },
-        r,
-        x,
-        places,
-    );
+    rows::fill(Wanted { how, first }, r, x, places);
     a
 }
