@@ -1,3 +1,4 @@
 pub mod Table
 pub mod TableRequests
 pub mod TableWriter
+pub mod TableTraces
