@@ -86,14 +86,20 @@ add-last c = omega (arith, mark (c .before .before), low (c .before))
 cast-put : tie.Need-cast-put Inv-loop μ-loop
 cast-put c = omega (arith, led (c .before .before .before) .small)
 
+-- its row is one of o, and not before the lowest receiver's
+row : (c : tie.After-row-to Inv-loop μ-loop)
+    → (c .before .before .before .before .before .before .args .e ≤ c .row-to .result)
+    × (c .row-to .result < length (c .before .before .before .before .before .before .args .o .now))
+row c =
+    let w = led (c .before) in
+    let z = c .row-to .ensures .0 (w .reach) (w .coded) in
+    (omega arith, c .row-to .ensures .1)
+
 mul-put : tie.Need-mul-put Inv-loop μ-loop
-mul-put c = search needs
+mul-put c = let w = row (c .before .before) in omega arith
 
 shared-slice-read-put : tie.Need-shared-slice-read-put Inv-loop μ-loop
-shared-slice-read-put c =
-    let j = c .before .before .before in
-    let w = led (j .before) in
-    omega (arith, j .row-to .ensures .0 (w .reach) (w .coded), j .row-to .ensures .1)
+shared-slice-read-put c = let w = row (c .before .before .before) in omega arith
 
 -- the line that stands in its row
 line : (c : tie.After-row-to Inv-loop μ-loop)
