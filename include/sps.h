@@ -48,8 +48,9 @@
  *
  * A question of a set (sps_trace, sps_channel, sps_spread, sps_table_line) checks the whole set
  * first, each time: it costs what sps_cross does, whatever it asks. So a host that wants many
- * channels of a record asks for its spread table once. sps_form goes over one file, and the calls
- * that read or write one line look at that line alone.
+ * channels of a record asks for its spread table once, and one that wants all traces of the set
+ * asks sps_traces once. sps_form goes over one file, and the calls that read or write one line look
+ * at that line alone.
  *
  * What the host keeps
  *

@@ -9,8 +9,9 @@ from __future__ import annotations
 
 import csv
 import sys
+from functools import lru_cache
 from pathlib import Path
-from typing import Dict, Iterator, List, NamedTuple
+from typing import Iterator, List, NamedTuple
 
 import sps
 
@@ -28,32 +29,15 @@ class Row(NamedTuple):
     dead: bool
 
 
-def relations(x: bytes, medium: int) -> Iterator[sps.Relation]:
-    """The relation lines of X; header lines and what ends a tape are no lines to read (20)."""
-    for line in range(1, len(x) // (82 if medium == sps.DISC else 80) + 1):
-        try:
-            yield sps.read_relation(x, line, medium=medium)
-        except sps.Refused as why:
-            if why.number != sps.Number.QUESTION_RANGE:
-                raise
-
-
-def table(r: bytes, s: bytes, x: bytes, medium: int) -> List[Row]:
-    """The traces of a set, record by record. Each spread table costs a check of the set."""
-    checked = sps.Set(r, s, x, medium=medium)
-    checked.cross()
-    points: Dict[int, sps.Point] = {}
-    rows = []
-    records = dict.fromkeys((line.tape, line.record) for line in relations(x, medium))
-    for tape, record in records:
-        for channel, (line, component) in checked.record(tape, record).spread().items():
-            if line not in points:
-                points[line] = sps.read_point("R", r, line, medium=medium)
-            of = points[line]
-            name = of.name.rstrip()
-            place = (name, of.number, of.index, component, of.killed)
-            rows.append(Row(tape.rstrip(), record, channel, *place))
-    return rows
+def table(r: bytes, s: bytes, x: bytes, medium: int) -> Iterator[Row]:
+    """The traces of a set, in the order of X. Each line of X and R that one needs is read once."""
+    relation = lru_cache(None)(lambda line: sps.read_relation(x, line, medium=medium))
+    receiver = lru_cache(None)(lambda line: sps.read_point("R", r, line, medium=medium))
+    rows = sps.Set(r, s, x, medium=medium).rows()
+    for x_line, channel, r_line, component, dead in sps.ROW.iter_unpack(rows):
+        of, to = relation(x_line), receiver(r_line)
+        place = (to.name.rstrip(), to.number, to.index, component, dead)
+        yield Row(of.tape.rstrip(), of.record, channel, *place)
 
 
 def main(words: List[str]) -> int:
@@ -63,7 +47,7 @@ def main(words: List[str]) -> int:
         return 2
     try:
         r, s, x = (Path(words[0], f"set.{letter}01").read_bytes() for letter in "rsx")
-        rows = table(r, s, x, medium)
+        rows = list(table(r, s, x, medium))
     except sps.Refused as why:
         print(why, file=sys.stderr)
         return 1

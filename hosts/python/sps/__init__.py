@@ -13,18 +13,22 @@ or any other buffer, a read-only one too, and are lent without a copy. Nobody ma
 a call, so that a mapped file which others write is copied first, with `bytes(mapped)`. Calls share
 nothing and leave other threads running.
 
-Each question checks the whole set first, and costs what `cross` does. The calls are those of
-`include/sps.h`. In the examples `set_a`, `tape_a` and `killed` are sets of the folder `examples`.
+Each question checks the whole set first, and costs what `cross` does; `Set.rows` tells all traces
+at once, as a buffer that numpy takes without a copy. The calls are those of `include/sps.h`. In the
+examples `set_a`, `tape_a` and `killed` are sets of the folder `examples`.
 """
 
 from ._point import Point, read_point, write_point
 from ._record import Record, Trace
 from ._refused import Number, Refused
 from ._relation import Relation, read_relation, write_relation
+from ._rows import ROW, ROW_DTYPE
 from ._set import DISC, TAPE, Counts, Medium, Set, cross, form
 
 __all__ = [
     "DISC",
+    "ROW",
+    "ROW_DTYPE",
     "TAPE",
     "Counts",
     "Medium",

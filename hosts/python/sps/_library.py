@@ -26,6 +26,7 @@ _CALLS = {
     "sps_trace": [*_FILES, *_RECORD, U64],
     "sps_channel": [*_FILES, *_RECORD, U64, U64],
     "sps_spread": [*_FILES, *_RECORD, *_BYTES, *_BYTES],
+    "sps_traces": [*_FILES, U64, *_BYTES],
     "sps_table_line": [*_FILES, U64, *_BYTES],
     "sps_read_point": [U64, U64, *_BYTES, U64, *_BYTES],
     "sps_read_relation": [U64, *_BYTES, U64, *_BYTES],

@@ -10,6 +10,7 @@ from ._lent import lent, letter, number, text, writable
 from ._library import library
 from ._record import Record
 from ._refused import told
+from ._rows import rows
 
 if TYPE_CHECKING:
     from _typeshed import ReadableBuffer
@@ -116,6 +117,21 @@ class Set:
         sps.Refused: REFUSED 20: a medium, a kind, a line or a question is out of range
         """
         return Record(self, text(tape), number)
+
+    def rows(self, first: int = 0, count: Optional[int] = None) -> bytearray:
+        """The traces in the order of X, line by line and channel by channel, as rows of 16 bytes
+        laid out as `ROW` and `ROW_DTYPE` say: from one on, counted from 0, and so many, or all.
+        All cost two checks of the set, and so many cost one.
+
+        >>> for row in sps.ROW.iter_unpack(set_a.rows()):
+        ...     print(row)  # X line, channel, R line, component, killed
+        (25, 1, 25, 1, False)
+        (25, 2, 26, 1, False)
+        (25, 3, 27, 1, False)
+        >>> [channel for _, channel, *_ in sps.ROW.iter_unpack(set_a.rows(first=1, count=1))]
+        [2]
+        """
+        return rows(self, first, count)
 
     def table_line(self, kind: str, code: Union[str, bytes]) -> Optional[int]:
         """The header line of R that names a code of receivers "R", sources "S" or instruments "X".

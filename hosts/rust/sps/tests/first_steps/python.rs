@@ -24,7 +24,9 @@ fn tests_of_the_package() {
     assert!(ended.status.success(), "{said}");
     let ran = said.lines().find_map(|line| line.strip_prefix("Ran ")?.split(' ').next());
     let ran: usize = ran.expect("a count").parse().expect("a number");
-    assert!(ran > 40 && said.ends_with("\nOK\n"), "{said}");
+    // Rows are laid before numpy where the machine has it.
+    let ends = ["\nOK\n", "\nOK (skipped=1)\n"];
+    assert!(ran > 40 && ends.iter().any(|end| said.ends_with(end)), "{said}");
 }
 
 /// A table of the traces of a set, on disc and on tape.
