@@ -59,8 +59,8 @@
  * - The memory stays, and nobody else changes it, until the call returns; it keeps no pointer. A
  *   file that is mapped into memory changes with whoever writes the file: copy it first, and have
  *   the copy checked.
- * - Memory that a call writes (counts, lines, components, values that are read, a line that is
- *   written) overlaps nothing else that it is given. Memory that it only reads may overlap.
+ * - Memory that a call writes (counts, lines, components, rows, values that are read, a line that
+ *   is written) overlaps nothing else that it is given. Memory that it only reads may overlap.
  * - A call takes less than 200 KB of stack, and allocates nothing. Most threads have more: as a
  *   rule 8 MB with glibc, 2 MB in Rust, 1 MB in Java. With musl (Alpine) a thread has 128 KB, also
  *   one on which Go runs C, unless pthread_attr_setstacksize gives it more or the program is linked
@@ -208,6 +208,34 @@ uint64_t sps_spread(uint64_t medium, const uint8_t *r, size_t r_len, const uint8
                     size_t s_len, const uint8_t *x, size_t x_len, const uint8_t *tape,
                     size_t tape_len, uint64_t record, uint8_t *lines, size_t lines_len,
                     uint8_t *components, size_t components_len);
+
+/* Where the parts of a row begin, in bytes from 0, and how many bytes it has. */
+enum sps_row {
+    SPS_ROW_X_LINE = 0,     /* four bytes, the low one first: the relation line of the trace */
+    SPS_ROW_CHANNEL = 4,    /* four bytes: 1 to 9999 */
+    SPS_ROW_R_LINE = 8,     /* four bytes: the line of its receiver */
+    SPS_ROW_COMPONENT = 12, /* a byte: 1 to 9 */
+    SPS_ROW_KILLED = 13,    /* a byte: 1 where the receiver is killed, or 0; two bytes 0 follow */
+    SPS_ROW_LEN = 16
+};
+
+/*
+ * All traces of the set, as rows. Answers what sps_cross does, for every first and every length of
+ * rows: the number of traces, or a refusal, 1 to 19, 24, 25 or 29, and 20 for the medium.
+ *
+ * Traces stand in the order of X, line by line and channel by channel, and count from 0. Those from
+ * number first on go into rows, one a row of SPS_ROW_LEN bytes, as far as rows has them whole:
+ * rows_len / 16 rows. Places after the last trace stay, and so do the last bytes that are too few
+ * for a row. Where first is beyond the last trace nothing is written. A refusal writes nothing.
+ *
+ * Each call checks the set once, whatever it writes, so that one slice for all traces takes the
+ * shortest time. A host with less memory lends what it has, and asks again with a first that is so
+ * many rows higher, until it is the answer. The tape and the record of a row are those of its line
+ * of X, which sps_read_relation reads.
+ */
+uint64_t sps_traces(uint64_t medium, const uint8_t *r, size_t r_len, const uint8_t *s,
+                    size_t s_len, const uint8_t *x, size_t x_len, uint64_t first, uint8_t *rows,
+                    size_t rows_len);
 
 /* The kinds of codes, by the letter of the file that uses them. */
 enum sps_kind {
@@ -398,6 +426,39 @@ static inline int sps_trace_killed(uint64_t trace)
 static inline unsigned sps_spread_line(const uint8_t *lines, size_t channel)
 {
     return lines[2 * channel - 2] + 256u * lines[2 * channel - 1];
+}
+
+/* Four bytes of a row, from 0, of the rows that sps_traces has written, as a number. */
+static inline unsigned sps_row_number(const uint8_t *rows, size_t row, size_t at)
+{
+    const uint8_t *low = rows + SPS_ROW_LEN * row + at;
+    return low[0] + 256u * low[1] + 65536u * low[2] + 16777216u * low[3];
+}
+
+/* The parts of a row: the line of X, the channel, the line of R, the component, killed: 1 or 0. */
+static inline unsigned sps_row_x_line(const uint8_t *rows, size_t row)
+{
+    return sps_row_number(rows, row, SPS_ROW_X_LINE);
+}
+
+static inline unsigned sps_row_channel(const uint8_t *rows, size_t row)
+{
+    return sps_row_number(rows, row, SPS_ROW_CHANNEL);
+}
+
+static inline unsigned sps_row_r_line(const uint8_t *rows, size_t row)
+{
+    return sps_row_number(rows, row, SPS_ROW_R_LINE);
+}
+
+static inline unsigned sps_row_component(const uint8_t *rows, size_t row)
+{
+    return rows[SPS_ROW_LEN * row + SPS_ROW_COMPONENT];
+}
+
+static inline int sps_row_killed(const uint8_t *rows, size_t row)
+{
+    return rows[SPS_ROW_LEN * row + SPS_ROW_KILLED];
 }
 
 /* Puts a value into a place, from 0, of the values of a line. */

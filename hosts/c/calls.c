@@ -62,8 +62,8 @@ static void forms(struct set set, uint64_t answer)
 }
 
 /*
- * The form of each file, the cross-check, and the counts in slices of each length, of which so many
- * places are written.
+ * The form of each file, the cross-check, the traces without a row, and the counts in slices of
+ * each length, of which so many places are written.
  */
 static void answers(struct set set, uint64_t expected, size_t places, const uint8_t *held)
 {
@@ -71,6 +71,7 @@ static void answers(struct set set, uint64_t expected, size_t places, const uint
     size_t at;
     forms(set, expected);
     SAME(sps_cross(FILES(set)), expected);
+    SAME(sps_traces(FILES(set), 0, NULL, 0), expected);
     for (at = 0; at < sizeof lengths / sizeof *lengths; at++) {
         size_t whole = lengths[at] / 8;
         counts(set, lengths[at], expected, whole < places ? whole : places, held);

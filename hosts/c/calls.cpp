@@ -50,6 +50,11 @@ struct Set {
         return sps_counts(medium, r.data(), r.size(), s.data(), s.size(), x.data(), x.size(),
                           counts.data(), counts.size());
     }
+    std::uint64_t traces(std::uint64_t first, Bytes &rows) const
+    {
+        return sps_traces(medium, r.data(), r.size(), s.data(), s.size(), x.data(), x.size(), first,
+                          rows.data(), rows.size());
+    }
     std::uint64_t trace(const Bytes &tape, std::uint64_t record, std::uint64_t channel) const
     {
         return sps_trace(medium, r.data(), r.size(), s.data(), s.size(), x.data(), x.size(),
@@ -172,8 +177,13 @@ void refusals(Set set, unsigned last)
 void killed(const Set &set)
 {
     const Bytes tape = {'1', '0', '0', ' ', ' ', ' '};
-    Bytes counts(40, 0xAA);
+    Bytes counts(40, 0xAA), rows(6 * SPS_ROW_LEN, 0xAA);
     same("the traces", set.counts(counts), 9u);
+    same("the traces from the fourth on", set.traces(3, rows), 9u);
+    const Bytes row = {FIRST, 0, 0, 0, 5, 0, 0, 0, SECOND, 0, 0, 0, 2, 1, 0, 0};
+    same("a row", Bytes(rows.begin() + SPS_ROW_LEN, rows.begin() + 2 * SPS_ROW_LEN), row);
+    same("its parts", sps_row_r_line(row.data(), 0) + sps_row_component(row.data(), 0), SECOND + 2);
+    same("a mark and none", sps_row_killed(rows.data(), 2) - sps_row_killed(rows.data(), 3), 1);
     same("the shots", sps_count(counts.data(), SPS_SHOTS), 2u);
     same("the dead traces", sps_count(counts.data(), SPS_DEAD_TRACES), 3u);
     for (std::uint64_t channel : {1, 4, 6, 9}) {

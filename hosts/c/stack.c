@@ -10,13 +10,13 @@
 enum { STACK = 204800 };
 
 static const uint8_t tape[] = {'1', '0', '0', ' ', ' ', ' '};
-static uint8_t lines[19998], components[9999];
+static uint8_t lines[19998], components[9999], rows[9999 * SPS_ROW_LEN];
 
 /* The answers of a set. */
 struct answers {
     struct set set;
     uint64_t record;
-    uint64_t r, s, x, cross, counts, trace, channel, spread, table_line;
+    uint64_t r, s, x, cross, counts, traces, trace, channel, spread, table_line;
     uint64_t read_point, write_point, read_relation, write_relation;
 };
 
@@ -49,6 +49,7 @@ static void *ask(void *lent)
     to->x = form(to->set.medium, SPS_KIND_X, to->set.x);
     to->cross = sps_cross(FILES(to->set));
     to->counts = sps_counts(FILES(to->set), counts, sizeof counts);
+    to->traces = sps_traces(FILES(to->set), to->cross / 2, rows, sizeof rows);
     to->trace = sps_trace(FILES(to->set), tape, 6, to->record, 200);
     to->channel = sps_channel(FILES(to->set), tape, 6, to->record, 9999, 1);
     to->spread = sps_spread(FILES(to->set), tape, 6, to->record, lines, sizeof lines, components,
@@ -76,11 +77,11 @@ int main(int count, char **words)
         fprintf(stderr, "no thread of %d bytes of stack\n", STACK);
         return 2;
     }
-    printf("%llu %llu %llu %llu %llu %llu %llu %llu %llu", (unsigned long long)to.r,
+    printf("%llu %llu %llu %llu %llu %llu %llu %llu %llu %llu", (unsigned long long)to.r,
            (unsigned long long)to.s, (unsigned long long)to.x, (unsigned long long)to.cross,
-           (unsigned long long)to.counts, (unsigned long long)to.trace,
-           (unsigned long long)to.channel, (unsigned long long)to.spread,
-           (unsigned long long)to.table_line);
+           (unsigned long long)to.counts, (unsigned long long)to.traces,
+           (unsigned long long)to.trace, (unsigned long long)to.channel,
+           (unsigned long long)to.spread, (unsigned long long)to.table_line);
     printf(" %llu %llu %llu %llu\n", (unsigned long long)to.read_point,
            (unsigned long long)to.write_point, (unsigned long long)to.read_relation,
            (unsigned long long)to.write_relation);

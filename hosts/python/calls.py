@@ -22,12 +22,13 @@ OF_1, OF_G1, OF_V1, FIRST, SECOND, THIRD = 22, 23, 24, 25, 26, 27
 
 
 def library(path):
-    """The eleven calls with their types."""
+    """The twelve calls with their types."""
     sps = ctypes.CDLL(path)
     types = {
         "sps_form": [U64, U64, ctypes.c_char_p, SIZE],
         "sps_cross": FILES,
         "sps_counts": FILES + BYTES,
+        "sps_traces": FILES + [U64] + BYTES,
         "sps_trace": FILES + RECORD + [U64],
         "sps_channel": FILES + RECORD + [U64, U64],
         "sps_spread": FILES + RECORD + BYTES + BYTES,
@@ -113,6 +114,11 @@ def killed(sps, asked):
     assert sps.sps_spread(*asked, *record, lines, 18, components, 9) == 9
     assert bytes(lines) == bytes([FIRST, 0] * 3 + [SECOND, 0] * 3 + [THIRD, 0] * 3)
     assert bytes(components) == bytes([1, 2, 3] * 3)
+    rows = (ctypes.c_uint8 * 50)(*[170] * 50)
+    assert sps.sps_traces(*asked, 2, rows, 50) == 9
+    held = [(FIRST, 3, FIRST, 3, 0), (FIRST, 4, SECOND, 1, 1), (FIRST, 5, SECOND, 2, 1)]
+    assert bytes(rows) == b"".join(struct.pack("<3I2B2x", *row) for row in held) + bytes([170] * 2)
+    assert sps.sps_traces(*asked, 0, None, 0) == 9
 
 
 def refusals(sps, set_a, last):
@@ -122,6 +128,7 @@ def refusals(sps, set_a, last):
     cut = [medium, r, r_len - 1] + set_a[3:]
     assert sps.sps_form(medium, ord("R"), r, r_len - 1) == refusal(1, 1, last, 0)
     assert sps.sps_counts(*cut, counts, 40) == refusal(1, 1, last, 0)
+    assert sps.sps_traces(*cut, 0, counts, 40) == refusal(1, 1, last, 0)
     for other in (0, 3, 2**32 + 1, 2**64 - 1):
         assert sps.sps_counts(other, *set_a[1:], counts, 40) == refusal(20, 0, 0, 0)
         assert sps.sps_cross(other, *cut[1:]) == refusal(20, 0, 0, 0)

@@ -14,7 +14,7 @@ const ARCHIVE: &str = env!("ARCHIVE");
 const WARNINGS: [&str; 4] = ["-Wall", "-Wextra", "-Werror", "-pedantic"];
 
 /// The calls of the archive.
-const CALLS: [&str; 11] = [
+const CALLS: [&str; 12] = [
     "sps_channel",
     "sps_counts",
     "sps_cross",
@@ -24,6 +24,7 @@ const CALLS: [&str; 11] = [
     "sps_spread",
     "sps_table_line",
     "sps_trace",
+    "sps_traces",
     "sps_write_point",
     "sps_write_relation",
 ];
@@ -105,16 +106,15 @@ fn compiled(compiler: &str, standard: &str, source: &str, name: &str) -> PathBuf
     program
 }
 
-#[test]
-fn c() {
-    let calls = compiled("cc", "-std=c99", "calls.c", "calls_c");
-    run(calls, &[&set_a(), &set_a_tape(), &killed()]);
-}
+/// The tests in C.
+const SOURCES: [&str; 3] = ["calls.c", "lines.c", "rows.c"];
 
 #[test]
-fn c_lines() {
-    let lines = compiled("cc", "-std=c99", "lines.c", "lines_c");
-    run(lines, &[&set_a(), &set_a_tape(), &killed()]);
+fn c() {
+    for source in SOURCES {
+        let calls = compiled("cc", "-std=c99", source, &format!("{source}_plain"));
+        run(calls, &[&set_a(), &set_a_tape(), &killed()]);
+    }
 }
 
 #[test]
@@ -128,8 +128,8 @@ fn cpp() {
 fn c_under_valgrind() {
     let strict = ["--quiet", "--error-exitcode=9", "--leak-check=full"];
     let [quiet, code, leaks] = &strict;
-    for (source, name) in [("calls.c", "calls_valgrind"), ("lines.c", "lines_valgrind")] {
-        let calls = compiled("cc", "-std=c99", source, name);
+    for source in SOURCES {
+        let calls = compiled("cc", "-std=c99", source, &format!("{source}_valgrind"));
         run("valgrind", &[quiet, code, leaks, &calls, &set_a(), &set_a_tape(), &killed()]);
     }
 }
@@ -159,7 +159,8 @@ fn answers(set: &Set, record: u32) -> String {
     let spread =
         naive::spread(medium, files, tape, record, &mut lines, &mut components).host_number();
     let line = naive::table_line(medium, files, b'R'.into(), b"G1").host_number();
-    let sets = format!("{r} {s} {x} {crossed} {crossed} {trace} {channel} {spread} {line}");
+    let counts = format!("{crossed} {crossed} {crossed}");
+    let sets = format!("{r} {s} {x} {counts} {trace} {channel} {spread} {line}");
     format!("{sets} {}\n", copied(medium, set))
 }
 
@@ -184,7 +185,8 @@ fn large_sets() -> Vec<(&'static str, Set, u32)> {
     let (accepted, last_record) = (two_million_traces(), most() - 1);
     let traces = 200 * most();
     let line = 9_999 * 16 + 1;
-    let found = format!("0 0 0 {traces} {traces} {line} 200 200 {} 0 0 0 0\n", header_line(600));
+    let counts = format!("{traces} {traces} {traces}");
+    let found = format!("0 0 0 {counts} {line} 200 200 {} 0 0 0 0\n", header_line(600));
     assert_eq!(answers(&accepted, last_record), found);
     let refused = accepted.clone().put(File::X, 9_999, 8, "   0");
     let mut sets = vec![("accepted", accepted, last_record), ("refused", refused, last_record)];
@@ -228,7 +230,7 @@ fn written(name: &str, set: &Set) -> PathBuf {
     folder
 }
 
-/// The archive has the eleven calls, asks for no more than `memset` and its like, and has
+/// The archive has the twelve calls, asks for no more than `memset` and its like, and has
 /// no memory of its own that is written: it allocates and shares nothing.
 #[test]
 fn symbols_of_the_archive() {
