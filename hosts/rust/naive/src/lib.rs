@@ -1,6 +1,6 @@
 //! A naive reader and writer of SPS sets: the second opinion on the form of one file, the
-//! cross-check of three, the two lookups, the spread table, the lines of code tables, the
-//! showing of a line and the writing of one.
+//! cross-check of three, the two lookups, the spread table, all traces as rows, the lines of
+//! code tables, the showing of a line and the writing of one.
 //!
 //! It is written from the paper alone and shares neither code nor definitions
 //! with the proved checker. It answers every input, of any length and bytes.
@@ -10,7 +10,8 @@
 //! points, `point`, `relation` and `header` read one line (5 and 6), `form` puts a whole
 //! file of a kind together (1 to 6), `set` compares the three files (7 to 19) and counts,
 //! `tables` has the codes that the header names (24 and 25), `traces` answers questions of
-//! an accepted set (20 and 21). `show` and `host` stand apart.
+//! an accepted set (20 and 21), `rows` goes through all its traces. `show` and `host` stand
+//! apart.
 //!
 //! The way back: `one_line` reads a line by itself (20, 3 to 6), `values` has what it holds and
 //! what a line is written from, `spell` gives each of them its one spelling, `write` puts the
@@ -27,6 +28,7 @@ mod lines;
 mod one_line;
 mod point;
 mod relation;
+mod rows;
 mod set;
 mod show;
 mod spell;
@@ -40,6 +42,7 @@ pub use host::{medium, HostNumber};
 pub use lines::Line;
 pub use point::{Marker, Place, Point, PointLine};
 pub use relation::Relation;
+pub use rows::Row;
 pub use show::show;
 pub use values::{PointValues, RelationValues};
 
@@ -186,6 +189,19 @@ pub fn spread(
 ) -> Result<u16, Refusal> {
     let asked = traces::asked(tape, record)?;
     set::read(medium, files)?.spread(asked, lines, components)
+}
+
+/// What the set holds, and so many of its traces from number `first` on, in the order of X and
+/// counted from 0.
+pub fn rows(
+    medium: Medium,
+    files: Files,
+    first: u64,
+    places: usize,
+) -> Result<(Counts, Vec<Row>), Refusal> {
+    let set = set::read(medium, files)?;
+    let above = usize::try_from(first).unwrap_or(usize::MAX);
+    Ok((set.counts, set.rows().skip(above).take(places).collect()))
 }
 
 /// The header line of R that names a code, by the letter of its kind: R for receivers, S for

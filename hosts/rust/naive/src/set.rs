@@ -19,8 +19,8 @@ pub type Stations = HashMap<Place, Station>;
 /// An accepted set.
 pub struct Set {
     pub receivers: Stations,
-    /// The relation lines in the order of X.
-    pub relations: Vec<Relation>,
+    /// The relation lines in the order of X, with its header.
+    pub x: Form<Relation>,
     pub tables: Tables,
     pub counts: Counts,
 }
@@ -47,7 +47,7 @@ pub fn read(medium: Medium, [r, s, x]: Files) -> Result<Set, Refusal> {
         traces: x.data.iter().map(Relation::traces).sum(),
         dead_traces: walk.dead_traces,
     };
-    Ok(Set { receivers, relations: x.data, tables, counts })
+    Ok(Set { receivers, x, tables, counts })
 }
 
 /// The lines that are points, killed or not, with where they stand.

@@ -29,11 +29,11 @@ pub fn asked(tape: &[u8], record: u64) -> Result<Asked, Refusal> {
 impl Set {
     /// The relation lines of a record.
     fn lines_of(&self, asked: Asked) -> impl Iterator<Item = &Relation> {
-        self.relations.iter().filter(move |r| r.record() == asked)
+        self.x.data.iter().filter(move |r| r.record() == asked)
     }
 
     /// The receiver that a channel of one relation line leads to.
-    fn receiver_of(&self, relation: &Relation, channel: u16) -> Option<Trace> {
+    pub fn receiver_of(&self, relation: &Relation, channel: u16) -> Option<Trace> {
         let (receiver, component) = relation.leads_to(channel)?;
         let Station { line, killed } = *self.receivers.get(&receiver)?;
         Some(Trace { r_line: line as u16, component, killed })
