@@ -6,6 +6,10 @@
 //! no other memory, and keep no pointer.
 #![allow(unsafe_code)]
 
+// Tests have this file by its path too.
+#[path = "archive/c.rs"]
+mod c;
+
 /// R, S and X, and the number of their medium.
 #[derive(Clone, Copy)]
 pub struct Files<'a> {
@@ -13,117 +17,6 @@ pub struct Files<'a> {
     pub r: &'a [u8],
     pub s: &'a [u8],
     pub x: &'a [u8],
-}
-
-mod c {
-    unsafe extern "C" {
-        pub fn sps_form(medium: u64, kind: u64, file: *const u8, file_len: usize) -> u64;
-        pub fn sps_cross(
-            medium: u64,
-            r: *const u8,
-            r_len: usize,
-            s: *const u8,
-            s_len: usize,
-            x: *const u8,
-            x_len: usize,
-        ) -> u64;
-        pub fn sps_counts(
-            medium: u64,
-            r: *const u8,
-            r_len: usize,
-            s: *const u8,
-            s_len: usize,
-            x: *const u8,
-            x_len: usize,
-            counts: *mut u8,
-            counts_len: usize,
-        ) -> u64;
-        pub fn sps_trace(
-            medium: u64,
-            r: *const u8,
-            r_len: usize,
-            s: *const u8,
-            s_len: usize,
-            x: *const u8,
-            x_len: usize,
-            tape: *const u8,
-            tape_len: usize,
-            record: u64,
-            channel: u64,
-        ) -> u64;
-        pub fn sps_channel(
-            medium: u64,
-            r: *const u8,
-            r_len: usize,
-            s: *const u8,
-            s_len: usize,
-            x: *const u8,
-            x_len: usize,
-            tape: *const u8,
-            tape_len: usize,
-            record: u64,
-            r_line: u64,
-            component: u64,
-        ) -> u64;
-        pub fn sps_spread(
-            medium: u64,
-            r: *const u8,
-            r_len: usize,
-            s: *const u8,
-            s_len: usize,
-            x: *const u8,
-            x_len: usize,
-            tape: *const u8,
-            tape_len: usize,
-            record: u64,
-            lines: *mut u8,
-            lines_len: usize,
-            components: *mut u8,
-            components_len: usize,
-        ) -> u64;
-        pub fn sps_table_line(
-            medium: u64,
-            r: *const u8,
-            r_len: usize,
-            s: *const u8,
-            s_len: usize,
-            x: *const u8,
-            x_len: usize,
-            kind: u64,
-            code: *const u8,
-            code_len: usize,
-        ) -> u64;
-        pub fn sps_read_point(
-            medium: u64,
-            letter: u64,
-            file: *const u8,
-            file_len: usize,
-            line: u64,
-            values: *mut u8,
-            values_len: usize,
-        ) -> u64;
-        pub fn sps_read_relation(
-            medium: u64,
-            x: *const u8,
-            x_len: usize,
-            line: u64,
-            values: *mut u8,
-            values_len: usize,
-        ) -> u64;
-        pub fn sps_write_point(
-            letter: u64,
-            values: *const u8,
-            values_len: usize,
-            line: *mut u8,
-            line_len: usize,
-        ) -> u64;
-        pub fn sps_write_relation(
-            values: *const u8,
-            values_len: usize,
-            line: *mut u8,
-            line_len: usize,
-        ) -> u64;
-    }
 }
 
 pub fn form(medium: u64, kind: u64, file: &[u8]) -> u64 {
@@ -152,6 +45,25 @@ pub fn counts(Files { medium, r, s, x }: Files, counts: &mut [u8]) -> u64 {
             x.len(),
             counts.as_mut_ptr(),
             counts.len(),
+        )
+    }
+}
+
+pub fn traces(Files { medium, r, s, x }: Files, first: u64, rows: &mut [u8]) -> u64 {
+    // SAFETY: each pointer and length are those of one slice, and the one that is
+    // written is lent alone.
+    unsafe {
+        c::sps_traces(
+            medium,
+            r.as_ptr(),
+            r.len(),
+            s.as_ptr(),
+            s.len(),
+            x.as_ptr(),
+            x.len(),
+            first,
+            rows.as_mut_ptr(),
+            rows.len(),
         )
     }
 }

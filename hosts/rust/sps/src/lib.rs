@@ -4,8 +4,9 @@
 //! columns, on disc or on tape ([`Medium`]). [`form`](form()) accepts one file as what it
 //! is said to be, or refuses it, and [`Set::cross`] three files with their counts; a
 //! refusal is the first breach of the paper's rules. [`Set::record`] asks where the traces
-//! of a record come from, [`Set::table_line`] which header line names a code. [`read_point`]
-//! and [`read_relation`] give the values of one line, which [`Point::write`] and
+//! of a record come from, and [`Set::rows`] goes through all traces of the set.
+//! [`Set::table_line`] says which header line names a code. [`read_point`] and
+//! [`read_relation`] give the values of one line, which [`Point::write`] and
 //! [`Relation::write`] write.
 //!
 //! ```
@@ -20,6 +21,9 @@
 //! let trace = record.channel(2)?.expect("a trace");
 //! assert_eq!((trace.r_line, trace.component, trace.killed), (26, 1, false));
 //! assert_eq!(record.receiver(trace.r_line, trace.component)?, Some(2));
+//!
+//! let rows = set.rows().collect::<Result<Vec<_>, _>>()?;
+//! assert_eq!((rows[1].channel, rows[1].r_line, rows.len()), (2, 26, 3));
 //!
 //! let mut relation = sps::read_relation(sps::Medium::Disc, &x, 25)?;
 //! relation.record = 12;
@@ -47,6 +51,7 @@ mod point;
 mod record;
 mod refusal;
 mod relation;
+mod rows;
 mod set;
 
 pub use form::form;
@@ -57,4 +62,5 @@ pub use point::{read_point, Point, PointState};
 pub use record::{Record, Trace};
 pub use refusal::{File, Refusal};
 pub use relation::{read_relation, Relation};
+pub use rows::{Row, Rows};
 pub use set::{Accepted, Set};

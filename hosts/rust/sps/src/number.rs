@@ -54,7 +54,7 @@ pub enum Number {
     CoveredTwice,
     /// 20: a medium, a kind of file, a line or a question is out of range.
     QuestionRange,
-    /// 21: a slice of the spread table is too short.
+    /// 21: a slice of the spread table is too short, or a buffer has no room for a row.
     SliceLength,
     /// 22: values that no line has, or a marker's.
     ValueRange,
@@ -217,7 +217,10 @@ impl Number {
                  a code is that of a receiver, a source or an instrument, as is asked, and not PM \
                  or KL, a line to read is one of the file, and no header line"
             }
-            SliceLength => "a slice of the spread table is shorter than the record's highest channel",
+            SliceLength => {
+                "a slice of the spread table is shorter than the record's highest channel, or a \
+                 buffer for rows is shorter than a row, 16 bytes"
+            }
             ValueRange => {
                 "no line has these values: a marker is not written, a name or a tape is bytes 32 \
                  to 126 that start with a non-blank, a code is one of the file with its state, a \

@@ -2,8 +2,11 @@
 
 use crate::archive::{self, Files};
 use crate::refusal::answer;
-use crate::{Kind, Medium, Record, Refusal};
+use crate::{Kind, Medium, Record, Refusal, Rows};
 use std::fmt;
+
+/// The bytes of a buffer for rows, where the caller lends none.
+const BUFFER: usize = 4 << 20;
 
 /// Three lent files on a medium, not checked yet.
 ///
@@ -87,6 +90,62 @@ impl<'a> Set<'a> {
     /// ```
     pub fn record(&self, tape: &'a [u8], record: u64) -> Record<'a> {
         Record::new(self.files, tape, record)
+    }
+
+    /// All traces of the set in the order of X, each with its receiver. A set that is refused gives
+    /// the refusal of [`cross`](Set::cross) alone. The rows come in chunks of 4 MB; each chunk
+    /// checks the set, which is far less than a question for each trace.
+    ///
+    /// ```
+    /// # let read = |name| std::fs::read(format!("../../../examples/killed/{name}"));
+    /// # let (r, s, x) = (read("set.r01")?, read("set.s01")?, read("set.x01")?);
+    /// let set = sps::Set::new(sps::Medium::Disc, &r, &s, &x);
+    /// let mut dead = Vec::new();
+    /// for row in set.rows() {
+    ///     let row = row?;
+    ///     if row.killed {
+    ///         dead.push(row.channel);
+    ///     }
+    /// }
+    /// assert_eq!(dead, [4, 5, 6]);
+    /// # Ok::<(), Box<dyn std::error::Error>>(())
+    /// ```
+    pub fn rows(&self) -> Rows<'a> {
+        self.rows_with(vec![0; BUFFER])
+    }
+
+    /// The same with the caller's own buffer, lent or given: a chunk is as many rows of 16 bytes
+    /// as it has room for. Where there is a trace and the buffer has no room for one, it is refused
+    /// ([`SliceLength`](crate::Number::SliceLength)).
+    ///
+    /// ```
+    /// # let read = |name| std::fs::read(format!("../../../examples/set_a/{name}"));
+    /// # let (r, s, x) = (read("set.r01")?, read("set.s01")?, read("set.x01")?);
+    /// let set = sps::Set::new(sps::Medium::Disc, &r, &s, &x);
+    /// let mut buffer = [0; 2 * 16];
+    /// let rows = set.rows_with(&mut buffer).collect::<Result<Vec<_>, _>>()?;
+    /// assert_eq!(rows.iter().map(|row| row.r_line).collect::<Vec<_>>(), [25, 26, 27]);
+    /// # Ok::<(), Box<dyn std::error::Error>>(())
+    /// ```
+    pub fn rows_with<B: AsMut<[u8]>>(&self, buffer: B) -> Rows<'a, B> {
+        Rows::new(self.files, buffer)
+    }
+
+    /// The rows as bytes, from the trace of a number on, counted from 0: as many as the slice has
+    /// whole places of 16 bytes; later places and bytes stay. The answer is the number of all
+    /// traces. `include/sps.h` says what stands where in a row.
+    ///
+    /// ```
+    /// # let read = |name| std::fs::read(format!("../../../examples/set_a/{name}"));
+    /// # let (r, s, x) = (read("set.r01")?, read("set.s01")?, read("set.x01")?);
+    /// let set = sps::Set::new(sps::Medium::Disc, &r, &s, &x);
+    /// let mut bytes = [9; 18];
+    /// assert_eq!(set.row_bytes(1, &mut bytes)?, 3);
+    /// assert_eq!(bytes, [25, 0, 0, 0, 2, 0, 0, 0, 26, 0, 0, 0, 1, 0, 0, 0, 9, 9]);
+    /// # Ok::<(), Box<dyn std::error::Error>>(())
+    /// ```
+    pub fn row_bytes(&self, first: u64, rows: &mut [u8]) -> Result<u64, Refusal> {
+        answer(archive::traces(self.files, first, rows))
     }
 
     /// The header line of R that names a code, from 1; `None` where none does. The code is
