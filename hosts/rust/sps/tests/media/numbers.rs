@@ -14,20 +14,21 @@ const OUT_OF_RANGE: u64 = 20 << 40;
 const STAYS: u8 = 0xAA;
 
 /// The answers of the calls that take whole files; what is lent stays.
-fn answers(files: Files, tape: &[u8], numbers: [u64; 4]) -> [u64; 7] {
+fn answers(files: Files, tape: &[u8], numbers: [u64; 4]) -> [u64; 8] {
     let [record, channel, r_line, component] = numbers;
     let (counts, bytes) = lent(STAYS, 48, |bytes| archive::counts(files, bytes));
     let ((spread, components), lines) = lent(STAYS, 9, |lines| {
         lent(STAYS, 5, |components| archive::spread(files, tape, record, lines, components))
     });
-    for lent in [bytes, lines, components] {
+    let (traces, rows) = lent(STAYS, 33, |rows| archive::traces(files, 0, rows));
+    for lent in [bytes, lines, components, rows] {
         stay(STAYS, &lent);
     }
     let form = archive::form(files.medium, b'R'.into(), files.r);
     let trace = archive::trace(files, tape, record, channel);
     let back = archive::channel(files, tape, record, r_line, component);
     let line = archive::table_line(files, b'R'.into(), &tape[..tape.len().min(2)]);
-    [form, archive::cross(files), counts, trace, back, spread, line]
+    [form, archive::cross(files), counts, traces, trace, back, spread, line]
 }
 
 /// Of sound sets and of bad ones, with questions in range and out of it.
@@ -45,7 +46,7 @@ fn another_medium() {
                 (b"100", [11, 2, line, 1]),
                 (b"100   ", [u64::MAX, 0, 0, 0]),
             ] {
-                assert_eq!(answers(files, tape, numbers), [OUT_OF_RANGE; 7], "medium {medium}");
+                assert_eq!(answers(files, tape, numbers), [OUT_OF_RANGE; 8], "medium {medium}");
                 assert!(naive::medium(medium).is_err_and(|refusal| refusal.number == 20));
             }
         }
