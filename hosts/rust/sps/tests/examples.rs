@@ -2,6 +2,7 @@
 
 use small_sets::place::{below, first};
 use std::ffi::OsStr;
+use std::fs;
 use std::path::{Path, PathBuf};
 use std::process::Command;
 
@@ -69,6 +70,46 @@ fn spread() {
     let table = format!("highest channel 3\n{lines}");
     assert_eq!(printed("spread", "set_a", NONE, true), table);
     assert_eq!(printed("spread", "headers_only", NONE, true), "highest channel 0\n");
+}
+
+/// What `join` prints of an example and a store of some lines.
+fn joined(name: &str, example: &str, store: &str, well: bool) -> String {
+    let path = Path::new(env!("CARGO_TARGET_TMPDIR")).join(format!("{name}.csv"));
+    fs::write(&path, store).expect("a store");
+    printed("join", example, &[path], well)
+}
+
+/// The store that stands beside the example lacks the dead traces and the last one, and has a
+/// trace that the set lacks.
+#[test]
+fn join() {
+    let store = Path::new(env!("CARGO_MANIFEST_DIR")).join("examples/store.csv");
+    let (second, third) = (below(2), below(3));
+    let dead = |channel: usize| {
+        let component = channel - 3;
+        format!("100   ,11,{channel}: R line {second}, component {component}, killed\n")
+    };
+    let last = format!("100   ,11,9: R line {third}, component 3\n");
+    let lacks = [4, 5, 6].map(dead).concat() + &last + "the store lacks 4 of 9 traces\n";
+    assert_eq!(printed("join", "killed", &[store], true), lacks);
+
+    let all = |records: [u32; 2]| -> String {
+        let of = |record| (1..=3).map(move |channel| format!("100,{record},{channel}\n"));
+        records.into_iter().flat_map(of).collect()
+    };
+    let whole = "the store lacks 0 of 6 traces\n";
+    assert_eq!(joined("whole", "code_tables", &all([11, 12]), true), whole);
+    let more = format!("099,11,1\n100,10,9999\n{}100,13,1\n", all([11, 12]));
+    assert_eq!(joined("more", "code_tables", &more, true), whole);
+    let half = joined("half", "code_tables", &all([11, 13]), true);
+    assert!(half.starts_with("100   ,12,1: R line "), "{half}");
+    assert!(half.ends_with("\nthe store lacks 3 of 6 traces\n"), "{half}");
+    assert_eq!(joined("none", "headers_only", "", true), "the store lacks 0 of 0 traces\n");
+
+    assert_eq!(joined("unsorted", "code_tables", &all([12, 11]), false), "");
+    assert_eq!(joined("no_channel", "code_tables", "100,11\n", false), "");
+    assert_eq!(joined("refused", "odd_channel", "", false), "");
+    assert_eq!(printed("join", "set_a", NONE, false), "");
 }
 
 /// The lines stand in the order of the shots, and what was blank is written.
