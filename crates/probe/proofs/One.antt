@@ -11,12 +11,6 @@ use Rattle.probe.proofs.probe_point as probe-point
 use Rattle.probe.proofs.probe_point.Reads as probe-point-reads
 use Rattle.probe.proofs.probe_relation as probe-relation
 use Rattle.probe.proofs.probe_relation.Reads as probe-relation-reads
-use Rattle.probe.proofs.values.point_numbers as point-numbers
-use Rattle.probe.proofs.values.point_numbers.Reads as point-numbers-reads
-use Rattle.probe.proofs.values.point_signed as point-signed
-use Rattle.probe.proofs.values.point_signed.Reads as point-signed-reads
-use Rattle.probe.proofs.values.relation_numbers as relation-numbers
-use Rattle.probe.proofs.values.relation_numbers.Reads as relation-numbers-reads
 
 pub probe-show-one : One probe-show.ended probe-show-reads.Post
 probe-show-one κs a v v′ w w′ p p′ = (p .0 ∙ sym (p′ .0), both refl (both refl (both refl (both refl (both (p .1 ∙ sym (p′ .1)) refl)))))
@@ -28,16 +22,7 @@ pub probe-form-one : One probe-form.ended probe-form-reads.Post
 probe-form-one κs a v v′ w w′ = alike
 
 pub probe-point-one : One probe-point.ended probe-point-reads.Post
-probe-point-one κs a v v′ w w′ p p′ = (refl, both refl (both (p .0 ∙ sym (p′ .0)) (both (p .1 ∙ sym (p′ .1)) refl)))
+probe-point-one κs a v v′ w w′ p p′ = (refl, both refl (both (p ∙ sym p′) refl))
 
 pub probe-relation-one : One probe-relation.ended probe-relation-reads.Post
 probe-relation-one κs a v v′ w w′ p p′ = (refl, both refl (both (p ∙ sym p′) refl))
-
-pub point-numbers-one : One point-numbers.ended point-numbers-reads.Post
-point-numbers-one κs a v v′ w w′ = alike
-
-pub point-signed-one : One point-signed.ended point-signed-reads.Post
-point-signed-one κs a v v′ w w′ = alike
-
-pub relation-numbers-one : One relation-numbers.ended relation-numbers-reads.Post
-relation-numbers-one κs a v v′ w w′ = alike

@@ -9,16 +9,14 @@ ghost use Rattle.rules.specs.Form.{form as formOf};
 ghost use Rattle.rules.specs.Show.{show as showOf};
 ghost use Rattle.rules.specs.Points.{point as pointValues};
 ghost use Rattle.rules.specs.Relations.{relation as relationValues};
+ghost use Rattle.rules.specs.Carried.{pointPlaces, relationPlaces};
 ghost use Rattle.lines.specs.Paper.{paper};
-ghost use Rattle.records.specs.Coded.{codedPoint, codedRelation};
 ghost use Rattle.form.specs.Steps.{fieldsOf};
 ghost use Rattle.probe.specs.Host.{over, told as toldOf};
-ghost use Rattle.probe.specs.Values.{pointNumbers, pointSigned, relationNumbers};
 use lines::Verdict;
 use records::point;
 use records::relation;
-
-mod values;
+use values::places;
 
 // Puts a part into the first places of out, where it has room.
 fn put(p: &[u8], out: &mut [u8])
@@ -80,23 +78,18 @@ pub extern "C" fn probe_form(f: &[u8], i: u8) -> u64
     told(form::file_fits(lines::disc(), f, i))
 }
 
-// The values of a point line.
+// The sixteen numbers of a point line.
 #[no_mangle]
-pub extern "C" fn probe_point(line: &[u8; 80], numbers: &mut [u64; 11], signed: &mut [i64; 8])
-    ensures written { λ _. ⌜
-        (now (numbers .exit) ≡ pointNumbers (codedPoint (pointValues sps93 (now (line .entry)))))
-        × (now (signed .exit) ≡ pointSigned (codedPoint (pointValues sps93 (now (line .entry)))))
-        ⌝ }
+pub extern "C" fn probe_point(line: &[u8; 80], numbers: &mut [u64; 16])
+    ensures written { λ _. ⌜ now (numbers .exit) ≡ pointPlaces (pointValues sps93 (now (line .entry))) ⌝ }
 {
-    let p = point::point_of(line);
-    *numbers = values::point_numbers(p);
-    *signed = values::point_signed(p);
+    *numbers = places::point_places(point::point_of(line));
 }
 
-// The values of a relation line.
+// Those of a relation line.
 #[no_mangle]
 pub extern "C" fn probe_relation(line: &[u8; 80], numbers: &mut [u64; 16])
-    ensures written { λ _. ⌜ now (numbers .exit) ≡ relationNumbers (codedRelation (relationValues sps93 (now (line .entry)))) ⌝ }
+    ensures written { λ _. ⌜ now (numbers .exit) ≡ relationPlaces (relationValues sps93 (now (line .entry))) ⌝ }
 {
-    *numbers = values::relation_numbers(relation::relation_of(line));
+    *numbers = places::relation_places(relation::relation_of(line));
 }

@@ -92,7 +92,7 @@ mod archive {
         ) -> u64;
         pub safe fn probe_line(line: &Line, file: u8) -> u64;
         pub fn probe_form(bytes: *const u8, len: usize, file: u8) -> u64;
-        pub safe fn probe_point(line: &Line, numbers: &mut [u64; 11], signed: &mut [i64; 8]);
+        pub safe fn probe_point(line: &Line, numbers: &mut [u64; 16]);
         pub safe fn probe_relation(line: &Line, numbers: &mut [u64; 16]);
     }
 }
@@ -154,37 +154,33 @@ pub fn form(bytes: &[u8], file: u8) -> Option<Refusal> {
 /// The values of a point line that is not refused; of a marker those of its free
 /// columns say nothing.
 pub fn point(line: &Line) -> Point {
-    let (mut numbers, mut signed) = ([0; 11], [0; 8]);
-    archive::probe_point(line, &mut numbers, &mut signed);
-    let [hi, lo, number, index, code, state, static_held, uphole_held, water_held, day, time] =
-        numbers;
-    let [static_value, depth, datum, uphole, water, easting, northing, elevation] = signed;
+    let mut numbers = [0; 16];
+    archive::probe_point(line, &mut numbers);
+    let [hi, lo, number, index, code, state, static_value, rest @ ..] = numbers;
+    let [depth, datum, uphole, water, easting, northing, elevation, day, time] = rest;
     Point {
         name: [hi, lo],
         number,
         index,
         code,
         state: State::of(state),
-        static_correction: held(static_held, static_value),
-        depth,
-        datum,
-        uphole: held(uphole_held, uphole),
-        water_depth: held(water_held, water),
-        easting,
-        northing,
-        elevation,
+        static_correction: held(static_value),
+        depth: depth.cast_signed(),
+        datum: datum.cast_signed(),
+        uphole: held(uphole),
+        water_depth: held(water),
+        easting: easting.cast_signed(),
+        northing: northing.cast_signed(),
+        elevation: elevation.cast_signed(),
         day,
         time,
     }
 }
 
-/// A field that may be blank: 1 and its value, or 0 and 0.
-fn held(is_held: u64, value: i64) -> Option<i64> {
-    match (is_held, value) {
-        (1, value) => Some(value),
-        (0, 0) => None,
-        other => panic!("{other:?} is no field that may be blank"),
-    }
+/// A field that may be blank, which is -2^63.
+fn held(number: u64) -> Option<i64> {
+    let value = number.cast_signed();
+    (value != i64::MIN).then_some(value)
 }
 
 /// The values of a relation line that is not refused.
