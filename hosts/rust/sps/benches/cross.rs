@@ -16,13 +16,16 @@ mod clock;
 #[path = "../tests/common/wrapped.rs"]
 mod wrapped;
 
-use answers::{naive, proved};
-use clock::{best, cpu_time};
+use answers::{naive, proved, Answer};
+use clock::cpu_time;
 use many_sets::large::{measured, COMMON, FULL, SEEDED};
 use small_sets::Set;
 use std::collections::BTreeMap;
 use std::env;
-use std::time::Instant;
+use std::time::{Duration, Instant};
+
+/// A reader runs at least twice, then on until it has had this time of the processor.
+const ENOUGH: Duration = Duration::from_millis(500);
 
 /// Each reader at its best, in milliseconds of the processor.
 #[derive(Clone, Copy)]
@@ -50,13 +53,28 @@ fn main() {
 
 fn run(name: &str, set: &Set) -> Times {
     let expected = naive(set);
-    let [naive, proved] = [naive, proved].map(|reader| best(name, expected, || reader(set)));
+    let [naive, proved] = [naive, proved].map(|reader| best(name, set, reader, expected));
     let bytes = (set.r.len() + set.s.len() + set.x.len()) as f64;
     let shown = expected.map_or_else(|refusal| refusal.to_string(), |counts| counts.to_string());
     let speed = bytes / 1e3 / proved;
     let ratio = proved / naive;
     println!("| {name} | {shown} | {naive:.2} | {proved:.2} | {speed:.1} | {ratio:.2} |");
     Times { naive, proved }
+}
+
+/// The shortest turn of a reader; each turn gives the answer.
+fn best(name: &str, set: &Set, reader: fn(&Set) -> Answer, expected: Answer) -> f64 {
+    let began = cpu_time();
+    let mut best = Duration::MAX;
+    let mut turns = 0;
+    while turns < 2 || cpu_time() - began < ENOUGH {
+        let turn = cpu_time();
+        let answer = reader(set);
+        best = best.min(cpu_time() - turn);
+        assert_eq!(answer, expected, "{name}");
+        turns += 1;
+    }
+    best.as_secs_f64() * 1e3
 }
 
 /// How the times grow with the lines.
