@@ -39,7 +39,8 @@ pub struct Row {
 }
 
 /// The traces of a set in the order of X, line by line and channel by channel. It asks for as many
-/// at once as its buffer has room for, and each time the set is checked. A refusal is the last item.
+/// at once as its buffer has room for, and each time the set is checked. A refusal is the last
+/// item.
 ///
 /// [`Set::rows`](crate::Set::rows) makes one.
 pub struct Rows<'a, B = Vec<u8>> {
