@@ -7,10 +7,7 @@ ghost use Rattle.texts.specs.Buffer.{over};
 ghost use Rattle.files.specs.Reads.{sizeOf, restOf, next as nextOf, came as cameOf, Follows, path as pathOf, Found};
 use crate::first;
 use libc::PATH_MAX;
-use libc::S_IFIFO;
-use libc::S_IFMT;
-use libc::types::stat;
-use libc::types::timespec;
+use libc::SEEK_CUR;
 
 // What was found of a file: it cannot be opened or read; it is longer than its buffer; or so many bytes of the buffer are its own.
 pub enum Input {
@@ -113,49 +110,26 @@ pub fn path_of(text: &[u8]) -> Path
     }
 }
 
-// What is told of a file before anyone has asked.
-fn nothing_told() -> stat {
-    let never = timespec {
-        tv_sec: 0,
-        tv_nsec: 0,
-    };
-    stat {
-        st_dev: 0,
-        st_ino: 0,
-        st_nlink: 0,
-        st_mode: 0,
-        st_uid: 0,
-        st_gid: 0,
-        __pad: 0,
-        st_rdev: 0,
-        st_size: 0,
-        st_blksize: 0,
-        st_blocks: 0,
-        st_atim: never,
-        st_mtim: never,
-        st_ctim: never,
-        __unused: [0; 3],
-    }
-}
-
-// Whether a FIFO stands at the path. Opening one waits for somebody who writes.
-fn is_fifo(path: Path) -> bool {
-    let mut bytes = path.bytes;
-    bytes[PATH_MAX - 1] = 0;
-    let mut told = nothing_told();
-    if libc::stat(&bytes, &mut told) < 0 {
+// Whether a FIFO stands at the path. To open one for reading waits for somebody who writes; to open it for both does not, and it has no place
+// that could be sought. A file that may not be written is taken as none.
+fn is_fifo(path: &[u8]) -> bool {
+    let fd = os::open_update(path);
+    if fd < 0 {
         return false;
     }
-    told.st_mode & S_IFMT == S_IFIFO
+    let at = libc::lseek(fd, 0, SEEK_CUR);
+    libc::close(fd);
+    at < 0
 }
 
 // Opens a file: a descriptor, or a number below 0. A FIFO is no file.
 fn open(path: Path) -> i32 {
-    if is_fifo(path) {
+    let bytes = path.bytes;
+    let name = first(path.size, &bytes);
+    if is_fifo(name) {
         return -1;
     }
-    let bytes = path.bytes;
-    os::open_read(first(path.size, &bytes))
+    os::open_read(name)
 }
 
 // Reads what was opened, and closes it.

@@ -32,7 +32,8 @@ fn says(folder: &Folder, variables: &[(&str, usize)]) -> String {
     Folder::line(&mut command)
 }
 
-/// The program opens the three files, each once, in the order R, S, X, and no other.
+/// The program opens the three files in the order R, S, X, and no other: each to tell
+/// whether it is a FIFO, then to read it.
 #[test]
 fn the_three_files_are_opened() {
     let folder = Folder::of("opened", &set_a());
@@ -41,7 +42,8 @@ fn the_three_files_are_opened() {
     command.env("LD_PRELOAD", calls()).env("CALLS_LOG", &log);
     assert_eq!(Folder::line(&mut command), "ACCEPTED 3 1 1 3 0\n");
     let opened = fs::read_to_string(log).expect("a log");
-    assert_eq!(opened, "set.r01\nset.s01\nset.x01\n");
+    let twice = ["set.r01", "set.s01", "set.x01"].map(|name| format!("{name}\n{name}\n"));
+    assert_eq!(opened, twice.concat());
 }
 
 /// However many bytes a read brings, all are put together and none is told twice.
