@@ -7,22 +7,22 @@ use mathlib.Core.Path.{_≡_, refl, sym, ap, _∙_}
 use mathlib.Core.Bool.{Bool, true, false, _&&_}
 use mathlib.Core.List.{List, [], _∷_, _++_}
 use lib.Dec.{eqb, ltb, leb}
-use lib.IntN.{ℤ, pos, negsuc}
-use lib.ListN.{length, take, drop, length-append}
+use lib.IntN.{pos, negsuc}
+use lib.ListN.{length, take, length-append}
 use lib.Seq.{take-at, drop-at}
-use borrow.Author.Tests.{ltb-false, eqb-true}
+use borrow.Author.Tests.{eqb-true}
 use Rattle.rules.specs.Places.{pick}
 use Rattle.rules.specs.Plan.{fileR, fileS, fileX}
 use Rattle.rules.specs.Layout.{sps93}
 use Rattle.rules.specs.Names.{Name, text as named}
 use Rattle.rules.specs.Lines.{letter, kindOf}
 use Rattle.rules.specs.Points.{Held, absent, held, State, live, killed, marker, stateOf, Point, point}
-use Rattle.rules.specs.Relations.{Reach, Relation, reach, relation}
+use Rattle.rules.specs.Relations.{Relation, reach, relation}
 use Rattle.rules.specs.Rows.{pointRows, relationRows}
 use Rattle.rules.specs.Values.{Value, text, number, nothing, nameValue, heldValue, pointValues, relationValues}
-use Rattle.rules.specs.Writer.{writable, lineOf, sameState}
+use Rattle.rules.specs.Writer.{writable, sameState, counted}
 use Rattle.rules.specs.Carried.{numberAfter, asNumber, bytesOf, asPlace, ofPlace, absentPlace, heldPlace, statePlace, nameHigh, nameLow}
-use Rattle.rules.specs.Carried.{pointPlaces, relationPlaces, nameGiven, countGiven, heldGiven, stateGiven, pointGiven, relationGiven, reachGiven}
+use Rattle.rules.specs.Carried.{pointPlaces, relationPlaces, heldGiven, stateGiven, pointGiven, relationGiven, reachGiven}
 use Rattle.rules.proofs.Tests.{clash, and-is}
 use Rattle.rules.proofs.Values.{point-values, relation-values}
 use Rattle.rules.proofs.Tiles.{point-tiles, point-fittings, relation-tiles, relation-fittings}
@@ -212,12 +212,16 @@ module _ (bs : List ℕ) (small : (i : ℕ) → given bs i < 2 ^ 64) where
       let ws = pointRows sps93 i in
       let vs = pointGiven (given bs) in
       let l = take 80 (pointWritten b bs) in
-      let g = and-is _ _ .0 (and-is _ _ .0 (and-is _ _ .0 t .1) .1) in
+      let c = stateOf (bytesOf 2 (given bs 4)) in
+      let agrees = sameState c (stateGiven (given bs 5)) in
+      let kind = leb fileR i && leb i fileS in
+      let sizes = and-is (eqb (length bs) 128) (kind && (agrees && writable ws vs)) .0 t in
+      let g = and-is agrees (writable ws vs) .0 (and-is kind (agrees && writable ws vs) .0 (sizes .1) .1) in
       let row : l ≡ begun (letter i) ws vs [] = line-take (letter i) ws vs (point-tiles i) (point-fittings i) (g .1) in
       let e : pointValues (point sps93 l) ≡ vs =
       point-values sps93 i l ∙ (rw row (line-reads (letter i) ws vs (point-tiles i) (point-fittings i) (g .1) refl [])) in
       let code : point sps93 l .code ≡ bytesOf 2 (given bs 4) = code-back (point sps93 l) e in
-      point-given (given bs) small (point sps93 l) e (ap (λ (c : List ℕ). statePlace (stateOf c)) code ∙ state-back _ (given bs 5) (g .0))
+      point-given (given bs) small (point sps93 l) e (ap (λ (c : List ℕ). statePlace (stateOf c)) code ∙ state-back c (given bs 5) (g .0))
 
   module _ (t : relationTaken bs ≡ true) where
     abbrev row : List ℕ
@@ -228,7 +232,8 @@ module _ (bs : List ℕ) (small : (i : ℕ) → given bs i < 2 ^ 64) where
     values-back =
         let ws = relationRows sps93 in
         let vs = relationGiven (given bs) in
-        let g = and-is _ _ .0 (and-is _ _ .0 t .1) in
+        let six = counted (reachGiven (given bs)) in
+        let g = and-is (writable ws vs) six .0 (and-is (eqb (length bs) 128) (writable ws vs && six) .0 t .1) in
         let e : row ≡ begun (letter fileX) ws vs [] = line-take (letter fileX) ws vs relation-tiles relation-fittings (g .0) in
         relation-values sps93 row ∙ (rw e (line-reads (letter fileX) ws vs relation-tiles relation-fittings (g .0) refl []))
 

@@ -12,7 +12,7 @@ use mathlib.Core.List.{List, [], _∷_, _++_}
 use lib.ListN.{length, getD, take, drop, replicate, length-drop}
 use lib.Seq.{take-at, drop-at, drop-drop}
 use Rattle.rules.specs.Places.{pick, count, sum}
-use Rattle.rules.specs.Plan.{Refusal, Verdict, fine, refused}
+use Rattle.rules.specs.Plan.{Refusal}
 use Rattle.rules.specs.Sheet.{Sheet, mostLines, allLines}
 use Rattle.rules.specs.Medium.{Medium, sheet}
 use Rattle.rules.specs.Layout.{sps93}
@@ -20,7 +20,7 @@ use Rattle.rules.specs.Lines.{isData, isPoint}
 use Rattle.rules.specs.Relations.{reachAt}
 use Rattle.rules.specs.Cover.{traces}
 use Rattle.rules.specs.Check.{Answer, accepted, refusal, trace, channel, highest, headerLine, noTrace, formed}
-use Rattle.rules.specs.Check.{points, relations, allTraces, deadOf, deadTraces, verdict, answer, cross}
+use Rattle.rules.specs.Check.{relations, allTraces, deadOf, deadTraces, cross}
 use Rattle.rules.specs.MeetsForm.{Data, Point}
 use Rattle.rules.proofs.Form.{data-is, point-is}
 use Rattle.rules.proofs.Which.{how-many, how-much}

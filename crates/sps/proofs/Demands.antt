@@ -33,7 +33,6 @@ use Rattle.sets.specs.declared.Answer.{Answer as SetAnswer}
 use Rattle.sets.specs.declared.Answer.the-variants.{Accepted, Refused as SetRefused}
 use Rattle.sets.specs.Paper.{paper as setPaper}
 use Rattle.sets.specs.Judged.{Judged}
-use Rattle.sets.specs.Parts.{Parts}
 use Rattle.sets.proofs.Demands.{judged, parts}
 use Rattle.tables.specs.declared.Answer.{Answer as LineAnswer}
 use Rattle.tables.specs.Said.{Told}

@@ -2,13 +2,13 @@
 --   byte-room           = one byte more leaves a number of 64 bits
 --   byte-got, bytes-got = one byte more; all eight
 --   place-got           = one place more
-use Prim.Native.Nat.{ℕ, zero, suc, _+_, _-_, _*_, _^_, _≤_, _<_}
+use Prim.Native.Nat.{ℕ, suc, _+_, _-_, _*_, _^_, _≤_, _<_}
 use native.Mathlib.Nat.{pow-succ', pow-le-pow-right}
 use native.Mathlib.Numerals.{add-one}
 use native.Mathlib.Omega.{arith}
-use mathlib.Core.Path.{_≡_, refl, sym, ap, _∙_}
+use mathlib.Core.Path.{_≡_, refl, _∙_}
 use mathlib.Core.List.{List}
-use lib.ListN.{length, getD, take, drop, set, length-set}
+use lib.ListN.{length, getD, take, drop, set}
 use lib.Seq.{drop-cons, getD-set-same, getD-set-other}
 use Rattle.rules.proofs.Tests.{more}
 use Rattle.sps.specs.Said.{valueOf, readAt}

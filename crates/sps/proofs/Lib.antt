@@ -4,6 +4,7 @@ pub mod Counts
 pub mod One
 pub mod Told
 pub mod Read
+pub mod Back
 pub mod Written
 pub mod Whole
 pub mod Demands

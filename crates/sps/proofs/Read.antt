@@ -2,7 +2,7 @@
 --   point-told, relation-told   = its values
 --   point-refused, relation-refused = its refusal
 use Prim.Native.Nat.{ℕ}
-use mathlib.Core.Path.{_≡_, refl, sym, ap, subst, _∙_}
+use mathlib.Core.Path.{_≡_, refl, ap, subst, _∙_}
 use mathlib.Core.List.{List}
 use Rattle.rules.specs.Plan.{№, Verdict, fine, refused}
 use Rattle.rules.specs.Points.{Point as PaperPoint}

@@ -1,6 +1,6 @@
 -- The demands of the calls for C hosts that read one line, from their contracts.
 --   read-point-told, read-relation-told = what a host reads off the number, and what stands in its slice
-use Prim.Native.Nat.{ℕ, _-_, _^_, _≤_, _<_}
+use Prim.Native.Nat.{ℕ, _-_, _≤_}
 use native.Mathlib.Omega.{arith}
 use mathlib.Core.Path.{_≡_, refl, sym, ap, _∙_}
 use mathlib.Core.Logic.{_↔_}
@@ -12,7 +12,6 @@ use denote.Triple.Clauses.{AtExit}
 use borrow.Fn.World.{ArgsD, ResD}
 use Rattle.rules.specs.Plan.{Refusal, №, Verdict, fine, refused}
 use Rattle.rules.specs.Layout.{sps93}
-use Rattle.rules.specs.Sheet.{Sheet}
 use Rattle.rules.specs.Medium.{Medium, sheet}
 use Rattle.rules.specs.Points.{State, live, killed, marker, pointAt}
 use Rattle.rules.specs.Relations.{relationAt}

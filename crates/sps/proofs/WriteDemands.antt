@@ -1,5 +1,5 @@
 -- The demands of the calls for C hosts that write one line, from their contracts.
-use Prim.Native.Nat.{ℕ, _≤_, _<_}
+use Prim.Native.Nat.{ℕ}
 use native.Mathlib.Omega.{arith}
 use mathlib.Core.Path.{_≡_, refl, sym}
 use mathlib.Core.Bool.{Bool, true, false}
@@ -17,7 +17,7 @@ use Rattle.rules.specs.Writer.{writes, into}
 use Rattle.rules.specs.Hosts.{packed, hostVerdict}
 use Rattle.rules.proofs.Tests.{clash}
 use Rattle.sps.specs.Values.{pointTaken, pointWritten, relationTaken, relationWritten}
-use Rattle.sps.specs.Said.{RefusedAs, TellsWritten, LineTold}
+use Rattle.sps.specs.Said.{TellsWritten, LineTold}
 use Rattle.sps.proofs.line.sps_write_point as sps-write-point
 use Rattle.sps.proofs.line.sps_write_point.Reads as sps-write-point-reads
 use Rattle.sps.proofs.line.sps_write_relation as sps-write-relation

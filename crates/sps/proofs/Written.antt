@@ -5,12 +5,11 @@
 use Prim.Native.Nat.{ℕ, _<_}
 use native.Mathlib.Omega.{arith}
 use mathlib.Core.Path.{_≡_, refl, sym, ap, _∙_}
-use mathlib.Core.Bool.{Bool, true, false, _&&_}
+use mathlib.Core.Bool.{Bool, false}
 use mathlib.Core.List.{List}
-use lib.Dec.{eqb}
 use lib.ListN.{length, getD}
 use borrow.Author.Tests.{eq-eqb, ne-eqb}
-use Rattle.rules.specs.Plan.{№, Verdict as PaperVerdict, fine, refused, _before_, run}
+use Rattle.rules.specs.Plan.{№, Verdict as PaperVerdict, refused, run}
 use Rattle.rules.specs.Writer.{writes, into}
 use Rattle.rules.specs.Carried.{pointGiven, relationGiven, reachGiven}
 use Rattle.rules.specs.Hosts.{packed, hostNumber, hostVerdict}

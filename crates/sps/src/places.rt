@@ -1,7 +1,7 @@
 // Numbers in a byte slice: places of eight bytes, low byte first.
 ghost use mathlib.Core.Path.{_≡_};
 ghost use mathlib.Core.List.{[], _∷_};
-ghost use Prim.Native.Nat.{ℕ, _+_, _*_, _≤_};
+ghost use Prim.Native.Nat.{_+_, _*_, _≤_};
 ghost use lib.ListN.{length};
 ghost use Rattle.sps.specs.Counts.{placed, placedFrom};
 ghost use Rattle.sps.specs.Said.{readAt};
