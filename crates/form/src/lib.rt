@@ -1,7 +1,7 @@
 // The form of one file: the first breach of 1 to 6, in the paper's order. 1, 2, on tape 29, then line by line 3 (whole line), 4, 5, 6.
 ghost use mathlib.Core.Path.{_≡_};
 ghost use mathlib.Core.Bool.{true, false, _&&_};
-ghost use Prim.Native.Nat.{ℕ, _+_, _≤_, _<_};
+ghost use Prim.Native.Nat.{_+_, _≤_, _<_};
 ghost use Rattle.rules.specs.Plan.{run, upTo};
 ghost use Rattle.rules.specs.Layout.{sps93};
 ghost use Rattle.rules.specs.Sheet.{mostLines};

@@ -1,14 +1,13 @@
 // All traces of an accepted set as rows of sixteen bytes, in the order of X, line by line and channel by channel: the rows from one number on
 // go into the places of a lent slice. Two arrays are its own: the receivers of R in their order, and which of them are killed.
 ghost use mathlib.Core.Path.{_≡_};
-ghost use Prim.Native.Nat.{suc, _/_, _≤_, _<_, min, _-_};
+ghost use Prim.Native.Nat.{suc, _/_, _<_, min, _-_};
 ghost use mathlib.Core.List.{List};
 ghost use Prim.Native.Nat.{ℕ};
 ghost use lib.ListN.{length};
 ghost use Rattle.rules.specs.TraceRows.{tracesAbove, rowsOver};
 ghost use Rattle.lines.specs.Reading.{sheetOf};
 ghost use Rattle.dead.specs.Dead.{Lines};
-ghost use Rattle.receivers.specs.Rows.{Rows};
 ghost use Rattle.spread.specs.Asked.{Accepted};
 ghost use Rattle.rows.specs.Filled.{Marked, Ready, filled, placesTo};
 use keys::By;

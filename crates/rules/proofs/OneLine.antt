@@ -2,16 +2,16 @@
 --   point-fine, relation-fine       = its verdict is fine exactly where the line can be asked for and meets 3 to 6
 --   point-refused, relation-refused = it refuses exactly by the first breach in the order
 --   point-line-listed, relation-line-listed = its refusals are listed
-use Prim.Native.Nat.{ℕ, zero, suc, _+_, _-_, _≤_}
+use Prim.Native.Nat.{ℕ, zero, suc, _-_, _≤_}
 use native.Mathlib.Omega.{arith}
 use mathlib.Core.Path.{_≡_, refl, sym, _∙_}
 use mathlib.Core.Logic.{_↔_, _⊎_, inl, inr, ⊎-elim, Iff·rfl, Iff·trans}
 use mathlib.Core.Bool.{Bool, true, false, _&&_}
 use mathlib.Core.List.{List}
-use lib.Dec.{eqb, leb}
+use lib.Dec.{eqb}
 use borrow.Author.Tests.{eqb-true, eq-eqb}
 use Rattle.rules.specs.Places.{pick}
-use Rattle.rules.specs.Plan.{Refusal, №, fine, refused, fileR, fileS, fileX, _before_}
+use Rattle.rules.specs.Plan.{Refusal, fine, refused, fileR, fileS, fileX}
 use Rattle.rules.specs.Layout.{sps93}
 use Rattle.rules.specs.Sheet.{Sheet, mostLines}
 use Rattle.rules.specs.Medium.{Medium, sheet}

@@ -19,7 +19,7 @@ use Rattle.rules.specs.Check.{relationFits, rules}
 use Rattle.rules.specs.MeetsForm.{Data, Relates, Rule6, Breach6}
 use Rattle.rules.specs.MeetsHeaders.{Rule8, Breach8}
 use Rattle.rules.specs.MeetsSet.{Shot, Rule12, Rule13, Rule14, Breach14}
-use Rattle.rules.specs.Refuses.{look, _then_, lineByLine, by, inColumn, lineOrder, formOrder, headerOrder, shotOrder, related}
+use Rattle.rules.specs.Refuses.{look, lineByLine, by, inColumn, lineOrder, formOrder, headerOrder, shotOrder, related}
 use Rattle.rules.specs.Refuses.{codesOrder, relationOrder, order}
 use Rattle.rules.proofs.Tests.{says, eqb-is, leb-is}
 use Rattle.rules.proofs.Contrary.{contrary, not-leb, fails}

@@ -5,20 +5,20 @@
 use Prim.Native.Nat.{ℕ, zero, suc, _+_, _-_, _≤_, _<_}
 use native.Mathlib.Nat.{not-suc-le-zero, lt-suc-self}
 use native.Mathlib.Omega.{arith}
-use mathlib.Core.Path.{_≡_, refl, sym, ap, ap₂, subst, _∙_}
+use mathlib.Core.Path.{_≡_, refl, sym, ap, subst, _∙_}
 use mathlib.Core.Bool.{Bool, true, false}
 use mathlib.Core.List.{List}
 use lib.Dec.{ltb}
 use borrow.Author.Tests.{ltb-true, lt-ltb}
-use Rattle.rules.specs.Places.{pick, least, sum}
+use Rattle.rules.specs.Places.{pick, sum}
 use Rattle.rules.specs.Sheet.{Sheet}
 use Rattle.rules.specs.Lines.{isData}
-use Rattle.rules.specs.Relations.{Reach, reachAt}
+use Rattle.rules.specs.Relations.{reachAt}
 use Rattle.rules.specs.Cover.{traces, leads, component}
 use Rattle.rules.specs.Order.{receiverLine}
-use Rattle.rules.specs.Check.{Answer, trace, channel, allTraces, leadsToKilled}
-use Rattle.rules.specs.Lookup.{lookup, wayBack}
-use Rattle.rules.specs.TraceRows.{tracesAt, tracesAbove, lineOfTrace, channelOfTrace, TraceRow, traceRow}
+use Rattle.rules.specs.Check.{trace, channel, allTraces, leadsToKilled}
+use Rattle.rules.specs.Lookup.{lookup}
+use Rattle.rules.specs.TraceRows.{tracesAt, tracesAbove, lineOfTrace, channelOfTrace, traceRow}
 use Rattle.rules.specs.MeetsForm.{Data}
 use Rattle.rules.specs.MeetsCover.{Carries}
 use Rattle.rules.specs.Meets.{Meets}
@@ -27,7 +27,7 @@ use Rattle.rules.specs.MeetsTraces.{InRow, RowTold, RowsTold}
 use Rattle.rules.proofs.Tests.{clash, yes-no}
 use Rattle.rules.proofs.Least.{least-first}
 use Rattle.rules.proofs.Form.{data-is}
-use Rattle.rules.proofs.Accepted.{sound, one-channel, receiver-line}
+use Rattle.rules.proofs.Accepted.{one-channel, receiver-line}
 use Rattle.rules.proofs.Demand3.{Askable, lookup-leads, there-and-back}
 
 -- sums

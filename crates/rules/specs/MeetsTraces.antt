@@ -9,7 +9,7 @@ use Rattle.rules.specs.Sheet.{Sheet}
 use Rattle.rules.specs.Relations.{reachAt}
 use Rattle.rules.specs.Check.{trace, channel, allTraces}
 use Rattle.rules.specs.Lookup.{lookup, wayBack}
-use Rattle.rules.specs.TraceRows.{TraceRow, traceRow}
+use Rattle.rules.specs.TraceRows.{traceRow}
 use Rattle.rules.specs.MeetsForm.{Data}
 use Rattle.rules.specs.MeetsCover.{Carries}
 use Rattle.rules.specs.MeetsQuestions.{Of}

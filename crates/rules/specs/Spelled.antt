@@ -9,7 +9,7 @@
 --   allows k v        = the field's rule allows the value
 --   columnsHold k w v = its columns hold it
 --   goesInto k w v    = both
-use Prim.Native.Nat.{ℕ, zero, suc, _-_, _/_, _%_}
+use Prim.Native.Nat.{ℕ, suc, _-_, _/_, _%_}
 use Prim.Native.Char.{code as ascii}
 use mathlib.Core.Bool.{Bool, true, false, not, _&&_, _||_}
 use mathlib.Core.List.{List, [], _∷_, _++_}

@@ -9,17 +9,15 @@
 --   writes ok n        = 22, then 23 of a slice of n bytes
 --   into v l o         = o with l in its first places, unless v refuses
 use Prim.Native.Nat.{ℕ, _+_, _-_}
-use mathlib.Core.Bool.{Bool, true, false, not, _&&_}
+use mathlib.Core.Bool.{Bool, true, false, _&&_}
 use mathlib.Core.List.{List, [], _∷_, _++_}
-use lib.Dec.{eqb, leb}
+use lib.Dec.{leb}
 use lib.ListN.{length, drop}
-use Rattle.rules.specs.Places.{pick}
 use Rattle.rules.specs.Plan.{Plan, №, Verdict, fine, refused, fileR, fileS, fileX, need, _before_, run}
-use Rattle.rules.specs.Layout.{Layout, Span, sps93}
+use Rattle.rules.specs.Layout.{Span, sps93}
 use Rattle.rules.specs.Lines.{letter, kindOf}
 use Rattle.rules.specs.Points.{State, live, killed, marker, stateOf, Point}
 use Rattle.rules.specs.Relations.{Reach, Relation}
-use Rattle.rules.specs.Cover.{traces, receivers}
 use Rattle.rules.specs.Rows.{Row, pointRows, relationRows}
 use Rattle.rules.specs.Form.{rule6}
 use Rattle.rules.specs.Values.{Value, pointValues, relationValues}

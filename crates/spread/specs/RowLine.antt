@@ -2,7 +2,7 @@
 --   rowTo e p c       = the row of the receiver of channel c, where the lowest receiver of p stands in row e
 --   rowLine o e p c   = the R line of channel c
 --   Led q o e c       = q codes a reach that carries channel c, and its receiver stands in one of the rows
-use Prim.Native.Nat.{ℕ, _+_, _-_, _≤_, _<_, min}
+use Prim.Native.Nat.{ℕ, _+_, _-_, _≤_, _<_}
 use mathlib.Core.Path.{_≡_}
 use mathlib.Core.List.{List}
 use lib.ListN.{length}

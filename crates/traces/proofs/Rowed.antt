@@ -8,9 +8,9 @@ use mathlib.Core.Path.{_≡_, refl, sym, ap, _∙_}
 use mathlib.Core.List.{List, _++_, append-assoc}
 use lib.ListN.{length, take, drop}
 use lib.Seq.{take-at, drop-at, drop-drop}
-use Rattle.rules.specs.Plan.{Refusal, №, Verdict, fine, refused}
+use Rattle.rules.specs.Plan.{Refusal, №, fine, refused}
 use Rattle.rules.specs.Sheet.{Sheet}
-use Rattle.rules.specs.Check.{Answer as PaperAnswer, accepted, verdict, allTraces, cross}
+use Rattle.rules.specs.Check.{verdict, cross}
 use Rattle.rules.specs.Spread.{unlessRefused}
 use Rattle.rules.specs.TraceRows.{traceRow, rowBytes, rowsFrom, rowsOver, tracesIn}
 use Rattle.rules.specs.Meets.{Meets}

@@ -15,7 +15,6 @@ use Rattle.rules.specs.Plan.{№}
 use Rattle.rules.specs.Sheet.{Sheet}
 use Rattle.rules.specs.Relations.{Reach, reachAt}
 use Rattle.rules.specs.Cover.{leads as leadsTo, component}
-use Rattle.rules.specs.Check.{Answer as PaperAnswer}
 use Rattle.rules.specs.Lookup.{lookup}
 use Rattle.rules.specs.Spread.{lineOf, componentOf}
 use Rattle.rules.specs.MeetsCover.{Carries}

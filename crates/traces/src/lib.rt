@@ -2,7 +2,7 @@
 // the set itself, after the question's own range.
 ghost use mathlib.Core.Path.{_≡_};
 ghost use mathlib.Core.Bool.{true};
-ghost use Prim.Native.Nat.{ℕ, _≤_, _<_};
+ghost use Prim.Native.Nat.{_≤_, _<_};
 ghost use Rattle.rules.specs.Relations.{reachAt};
 ghost use Rattle.rules.specs.Cover.{carries, channelOf};
 ghost use Rattle.rules.specs.Points.{pointAt};

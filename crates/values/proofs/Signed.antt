@@ -2,9 +2,9 @@
 --   below-is                                 = the test of its sign
 --   plus-casts, plus-place                   = a number from 0 on
 --   less-fits, less-casts, less-room, less-place = a number below 0: -1 less it, taken from 2^64 - 1
-use Prim.Native.Nat.{ℕ, suc, _-_, _^_, _≤_}
+use Prim.Native.Nat.{ℕ, suc, _-_, _≤_}
 use native.Mathlib.Omega.{arith}
-use mathlib.Core.Path.{_≡_, refl, sym, ap, _∙_}
+use mathlib.Core.Path.{_≡_, sym, ap, _∙_}
 use mathlib.Core.Bool.{Bool, true, false}
 use lib.Dec.{T}
 use lib.IntN.{ℤ, pos, negsuc, natAbs, _-ℤ_}

@@ -1,6 +1,5 @@
 // One line of a file, read for a host that merges: 20 where it is not there, 3 to 6 of it, or its values; and these values as numbers in a row.
 ghost use mathlib.Core.Path.{_≡_};
-ghost use mathlib.Core.Bool.{_&&_};
 ghost use Prim.Native.Nat.{_-_};
 ghost use Rattle.rules.specs.Plan.{run};
 ghost use Rattle.rules.specs.Points.{pointAt};

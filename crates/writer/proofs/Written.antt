@@ -1,16 +1,15 @@
 -- A line that is written, or refused.
-use Prim.Native.Nat.{ℕ, _+_, _*_, _/_, _%_, _≤_, _<_}
+use Prim.Native.Nat.{ℕ, _+_, _≤_, _<_}
 use native.Mathlib.Nat.{zero-add}
 use native.Mathlib.Omega.{arith}
 use mathlib.Core.Path.{_≡_, refl, sym, ap, ap₂, _∙_}
-use mathlib.Core.Bool.{Bool, true, false, not, _&&_, and-false, and-true}
-use mathlib.Core.List.{List, [], _∷_, _++_}
-use lib.Dec.{leb, eqb}
+use mathlib.Core.Bool.{Bool, true, false, _&&_, and-false, and-true}
+use mathlib.Core.List.{List, _++_}
+use lib.Dec.{leb}
 use lib.ListN.{length, drop, take-append-drop}
-use borrow.Author.Tests.{le-leb, lt-leb, eq-eqb, ne-eqb, eqb-true}
+use borrow.Author.Tests.{le-leb, lt-leb}
 use Rattle.rules.specs.Places.{pick}
-use Rattle.rules.specs.Plan.{Verdict, fine, refused, №, _before_, run}
-use Rattle.rules.specs.Text.{same, bytes}
+use Rattle.rules.specs.Plan.{Verdict, fine, refused, №, run}
 use Rattle.rules.specs.Layout.{sps93}
 use Rattle.rules.specs.Lines.{letter, kindOf}
 use Rattle.rules.specs.Points.{State as PaperState, live, killed, marker, stateOf}
@@ -19,11 +18,9 @@ use Rattle.rules.specs.Rows.{pointRows, relationRows}
 use Rattle.rules.specs.Form.{rule6}
 use Rattle.rules.specs.Values.{Value as PaperValue, pointValues, relationValues}
 use Rattle.rules.specs.Writer.{writable, lineOf, pointGoes, pointLine, relationLine, sameState, pointWrites, relationWrites, counted, writes, into}
-use Rattle.rules.proofs.Tests.{agree, and-is}
 use Rattle.rules.proofs.Steps.{need-met, need-broken, before-met, before-broken}
 use Rattle.records.specs.declared.point.Point.{Point}
 use Rattle.records.specs.declared.state.State.{State}
-use Rattle.records.specs.declared.state.State.the-variants.{Live, Killed, Marker}
 use Rattle.records.specs.declared.relation.Reach.{Reach}
 use Rattle.records.specs.declared.relation.Relation.{Relation}
 use Rattle.records.specs.Coded.{codedState}

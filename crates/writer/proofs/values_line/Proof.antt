@@ -1,5 +1,5 @@
 -- `writer::values_line` meets its contract. Assumes nothing.
-use Prim.Native.Nat.{ℕ, _-_}
+use Prim.Native.Nat.{ℕ}
 use mathlib.Core.Path.{refl}
 use mathlib.Core.List.{List}
 use borrow.Author.Tests.{not-true, not-false}

@@ -1,6 +1,5 @@
 -- `writer::numbers::state_of` meets its contract. Assumes nothing.
 use Rattle.writer.proofs.Given.{live-is, killed-is, marker-is}
-use borrow.Author.Needs.{needs}
 use Rattle.writer.proofs.numbers.state_of.Statement.{statement}
 use Rattle.writer.proofs.numbers.state_of.Tie as tie
 
