@@ -8,8 +8,8 @@
  * record with EOF in columns 1 to 3 ends the file; its other columns hold any bytes. Lines and
  * columns count from 1, and the EOF record is a line. Every call that takes files takes the medium
  * first, one of enum sps_medium, then the three files, each as a pointer to its bytes and their
- * number; sps_form and the calls that read one line take one file, and its kind before it. What is
- * written is a line on disc.
+ * number; sps_form and sps_read_point take one file, and its kind before it, sps_read_relation X
+ * alone. What is written is a line on disc.
  *
  * A tape is judged as its translation; the order of receivers alone (10) is that of the tape's own
  * bytes, in which letters come before digits. Questions and answers are in ASCII on both media.
@@ -230,8 +230,8 @@ enum sps_row {
  *
  * Each call checks the set once, whatever it writes, so that one slice for all traces takes the
  * shortest time. A host with less memory lends what it has, and asks again with a first that is so
- * many rows higher, until it is the answer. The tape and the record of a row are those of its line
- * of X, which sps_read_relation reads.
+ * many rows higher, while that is below the answer. The tape and the record of a row are those of
+ * its line of X, which sps_read_relation reads.
  */
 uint64_t sps_traces(uint64_t medium, const uint8_t *r, size_t r_len, const uint8_t *s,
                     size_t s_len, const uint8_t *x, size_t x_len, uint64_t first, uint8_t *rows,
