@@ -5,7 +5,7 @@ use small_sets::{set_a, Set};
 use std::fs::{self, File};
 use std::io::Write;
 use std::path::{Path, PathBuf};
-use std::process::{Command, Stdio};
+use std::process::{Command, Output, Stdio};
 
 /// A folder with set A, a folder and a pipe that nobody writes.
 fn prepared(name: &str) -> PathBuf {
@@ -185,4 +185,39 @@ fn output_that_cannot_be_written() {
     writer.write_all(b" ").expect("a pipe with a reader");
     drop(reader);
     assert_eq!(with("closed_out", writer.into(), Stdio::null()), Some(2));
+}
+
+/// Standard output that is closed, or open for reading alone, whatever is asked.
+#[test]
+fn closed_output() {
+    let folder = prepared("closed_output");
+    fs::write(folder.join("short"), &set_a().x[..81]).expect("a file");
+    let why = "spswhy: standard output is closed, or open for reading alone\n";
+    for to in [">&-", "1</dev/null", "<&- >&-"] {
+        for words in [
+            &["set.r01", "set.s01", "set.x01"][..],
+            &["set.r01", "set.s01", "short"],
+            &["--json", "--kind", "R", "set.r01"],
+            &[".", "."],
+            &["--help"],
+            &["--version"],
+            &["--messages"],
+        ] {
+            let said = said(through_shell(&folder, to, words));
+            assert_eq!(said, (Some(2), String::new(), why.to_owned()), "{words:?} {to}");
+        }
+    }
+    // What is open for writing takes the verdict, also where nobody reads it.
+    for to in [">/dev/null", "1<>/dev/null", ">>out"] {
+        let said = said(through_shell(&folder, to, &NAMES));
+        assert_eq!(said, (Some(0), String::new(), String::new()), "{to}");
+    }
+    assert_eq!(fs::read(folder.join("out")).expect("a file"), b"ACCEPTED 3 1 1 3 0\n");
+}
+
+/// What a run says whose standard output a shell opens or closes.
+fn through_shell(folder: &Path, to: &str, words: &[&str]) -> Output {
+    let mut command = Command::new("sh");
+    command.args(["-c", &format!("exec \"$0\" \"$@\" {to}"), env!("CARGO_BIN_EXE_spswhy")]);
+    command.args(words).current_dir(folder).output().expect("sh runs")
 }

@@ -107,6 +107,9 @@ fn explain(Judgement { files, verdict }: &Judgement) {
 
 /// Writes to standard output.
 pub fn print(text: impl Display) -> Result<(), String> {
+    if !started::output_takes() {
+        return Err("standard output is closed, or open for reading alone".to_owned());
+    }
     let mut out = io::stdout().lock();
     let written = write!(out, "{text}").and_then(|()| out.flush());
     written.map_err(|error| format!("standard output cannot be written: {error}"))
