@@ -83,33 +83,44 @@ pub fn byte(refused: &Refused, message: &Message) {
     looks.iter().for_each(|sentence| self::looks(set.file(*file), sentence));
 }
 
-/// The first line of a file that is no header line, and its letter.
-fn first_data(refused: &Refused, file: File) -> Option<(u32, String)> {
-    let lines = 1..=refused.set.lines(file) as u32;
-    let mut texts = lines.map(|line| (line, shown(&refused.set, file as u8, line)));
-    texts.find(|(_, text)| !text.starts_with('H')).map(|(line, text)| (line, text[..1].to_owned()))
+/// EOF in the bytes of a tape.
+const EOF: [u8; 3] = [0xC5, 0xD6, 0xC6];
+
+/// The lines of a file that are no header lines, with their letters. The record that ends a tape
+/// is none of them.
+fn data(refused: &Refused, file: File) -> Vec<(u32, String)> {
+    let set = &refused.set;
+    let records = set.file(file).chunks_exact(set.medium.width());
+    let end = match set.medium {
+        Medium::Disc => None,
+        Medium::Tape => records.clone().position(|record| record[..3] == EOF),
+    };
+    let lines = 1..=end.unwrap_or(records.len()) as u32;
+    let letters = lines.map(|line| (line, shown(set, file as u8, line)[..1].to_owned()));
+    letters.filter(|(_, letter)| letter != "H").collect()
 }
 
 pub fn letter(refused: &Refused) -> Claims {
     let own = &text(refused)[..1];
-    let (line, first) = first_data(refused, refused.file).expect("a line that is no header line");
+    let lines = data(refused, refused.file);
+    let (line, _) = &lines[0];
     let letter = refused.file.letter();
     if own == "H" {
         let found = format!("column 1: found \"H\"; below line {line} needs {letter}");
-        return Claims::of([found]).beside(refused.file, line, 1);
+        return Claims::of([found]).beside(refused.file, *line, 1);
     }
-    if line < refused.line {
-        return Claims::of([format!("column 1: found \"{own}\"; needs {letter}")]);
-    }
-    let found = format!("column 1: found \"{first}\"; needs H or {letter}");
-    if !["R", "S", "X"].contains(&own) {
+    let header = if *line == refused.line { "H or " } else { "" };
+    let found = format!("column 1: found \"{own}\"; needs {header}{letter}");
+    if !["R", "S", "X"].contains(&own) || lines.iter().any(|(_, of)| of == letter) {
         return Claims::of([found]);
     }
-    let letters =
-        File::ALL.map(|file| first_data(refused, file).map_or("none".to_owned(), |of| of.1));
-    let [r, s, x] = letters;
+    let [r, s, x] = File::ALL.map(|file| match &data(refused, file)[..] {
+        [] => "nothing".to_owned(),
+        [(_, letter), ..] => letter.clone(),
+    });
     let order = format!(
-        "the files begin with lines of {r}, {s} and {x}; needed are R, S and X, in this order"
+        "below their headers the files begin with {r}, {s} and {x}; needed are R, S and X, in this \
+         order"
     );
     Claims::of([found, format!("this looks like an {own} file"), order])
 }

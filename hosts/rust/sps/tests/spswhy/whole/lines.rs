@@ -98,7 +98,7 @@ fn files_exchanged() {
 set.r01:25:1: refused with 4: column 1 is neither H nor the letter of the file
 column 1: found \"S\"; needs H or R
 this looks like an S file
-the files begin with lines of S, R and X; needed are R, S and X, in this order
+below their headers the files begin with S, R and X; needed are R, S and X, in this order
 SL1                   5011V1     0.0   0            0.0       0.0   0.0113071245
 ^
 ";
@@ -112,7 +112,7 @@ fn files_turned() {
 set.r01:25:1: refused with 4: column 1 is neither H nor the letter of the file
 column 1: found \"X\"; needs H or R
 this looks like an X file
-the files begin with lines of X, R and S; needed are R, S and X, in this order
+below their headers the files begin with X, R and S; needed are R, S and X, in this order
 X100     1111L1                   5011   1   31L1                   101     1031
 ^
 ";
@@ -126,11 +126,38 @@ fn one_file_twice() {
 set.x01:25:1: refused with 4: column 1 is neither H nor the letter of the file
 column 1: found \"R\"; needs H or X
 this looks like an R file
-the files begin with lines of R, S and R; needed are R, S and X, in this order
+below their headers the files begin with R, S and R; needed are R, S and X, in this order
 RL1                   1011G1     0.0   0            0.0       0.0   0.0113071245
 ^
 ";
     hold("lines_one_file_twice", &set, "REFUSED 4 X 25 1", expected);
+}
+
+#[test]
+fn files_exchanged_on_tape() {
+    let set = set_a().remove(S, first());
+    let set = tape(&Set { r: set.x.clone(), x: set_a().s, ..set });
+    let expected = "\
+set.r01:25:1: refused with 4: column 1 is neither H nor the letter of the file
+column 1: found \"X\"; needs H or R
+this looks like an X file
+below their headers the files begin with X, nothing and S; needed are R, S and X, in this order
+X100     1111L1                   5011   1   31L1                   101     1031
+^
+";
+    hold("lines_files_exchanged_on_tape", &set, "REFUSED 4 R 25 1", expected);
+}
+
+#[test]
+fn the_first_letter_alone() {
+    let set = set_a().put(R, first(), 1, "S");
+    let expected = "\
+set.r01:25:1: refused with 4: column 1 is neither H nor the letter of the file
+column 1: found \"S\"; needs H or R
+SL1                   1011G1     0.0   0            0.0       0.0   0.0113071245
+^
+";
+    hold("lines_the_first_letter_alone", &set, "REFUSED 4 R 25 1", expected);
 }
 
 #[test]

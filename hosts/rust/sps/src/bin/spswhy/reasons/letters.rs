@@ -4,26 +4,31 @@ use super::{Case, Told};
 use crate::files::Judged;
 use crate::rows::form::*;
 use crate::words::{list, quoted};
+use sps::Medium;
 
-/// The first line that is no header line, and its letter.
-fn first_data(file: &Judged) -> Option<(u64, u8)> {
-    let mut texts = file.texts().map(|(line, text)| (line, text[0]));
-    texts.find(|(_, letter)| *letter != b'H')
+/// The lines that are no header lines, with their letters, up to the record that ends a tape.
+fn data(file: &Judged) -> impl Iterator<Item = (u64, char)> + '_ {
+    let ends = |text: &[u8]| file.medium == Medium::Tape && text.starts_with(b"EOF");
+    let lines = file.texts().take_while(move |(_, text)| !ends(text));
+    lines.map(|(line, text)| (line, char::from(text[0]))).filter(|(_, letter)| *letter != 'H')
 }
 
 pub fn letter<'a>(case: &Case<'a>) -> Option<Told<'a>> {
-    let (line, first) = first_data(case.judged)?;
+    let (line, first) = data(case.judged).next()?;
     let text = case.text()?;
     let kind = case.judged.kind;
     if text.starts_with(b"H") {
         let found = NEEDS_OWN.with(&[&line, &kind]);
         return Some(Told::of(LATE_HEADER, [found]).beside(case.judged, line, 1, FIRST_DATA));
     }
-    let is_first = line == case.line();
-    let letters = if is_first { format!("H or {kind}") } else { kind.to_string() };
+    let letters = match line == case.line() {
+        true => format!("H or {kind}"),
+        false => kind.to_string(),
+    };
     let mut found = vec![NEEDS_LETTER.with(&[&quoted(&text[..1]), &letters])];
-    if is_first && b"RSX".contains(&first) {
-        found.push(LOOKS_LIKE.with(&[&char::from(first)]));
+    let has_own = data(case.judged).any(|(_, letter)| kind.to_string().starts_with(letter));
+    if !has_own && "RSX".contains(first) {
+        found.push(LOOKS_LIKE.with(&[&first]));
         found.extend(order_of_files(case));
     }
     Some(Told::of(OTHER_LETTER, found))
@@ -31,9 +36,9 @@ pub fn letter<'a>(case: &Case<'a>) -> Option<Told<'a>> {
 
 /// The letters of the three files.
 fn order_of_files(case: &Case) -> Option<String> {
-    let letter = |file| {
-        let letter = first_data(file).map(|(_, letter)| char::from(letter));
-        letter.map_or_else(|| "none".to_owned(), |letter| letter.to_string())
+    let letter = |file| match data(file).next() {
+        Some((_, letter)) => letter.to_string(),
+        None => "nothing".to_owned(),
     };
     Some(ORDER_OF_FILES.with(&[&list(&case.set()?.map(letter))]))
 }

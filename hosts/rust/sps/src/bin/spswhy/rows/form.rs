@@ -39,8 +39,9 @@ pub const NEEDS_LF: Words = Words("column 82: found {byte}; needs LF (10)");
 pub const OTHER_LETTER: Words = Words("column 1 is neither H nor the letter of the file");
 pub const NEEDS_LETTER: Words = Words("column 1: found {byte}; needs {letters}");
 pub const LOOKS_LIKE: Words = Words("this looks like an {letter} file");
-pub const ORDER_OF_FILES: Words =
-    Words("the files begin with lines of {letters}; needed are R, S and X, in this order");
+pub const ORDER_OF_FILES: Words = Words(
+    "below their headers the files begin with {letters}; needed are R, S and X, in this order",
+);
 pub const LATE_HEADER: Words = Words("a header line stands below data");
 pub const NEEDS_OWN: Words = Words("column 1: found \"H\"; below line {line} needs {letter}");
 pub const FIRST_DATA: Words = Words("the first line that is no header line");
