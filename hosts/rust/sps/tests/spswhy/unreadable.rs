@@ -73,6 +73,19 @@ fn other_words() {
     }
 }
 
+/// One name or several of nothing that is there: the first is told.
+#[test]
+fn nothing_there() {
+    let folder = prepared("nothing_there");
+    let none = "typo is no file and no folder; --help says more";
+    no_verdict(&folder, &["typo"], none);
+    no_verdict(&folder, &["typo", "more"], none);
+    no_verdict(&folder, &["--tape", "--json", "--", "typo", "1", "2", "3"], none);
+    no_verdict(&folder, &["--", "--typo"], "--typo is no file and no folder");
+    no_verdict(&folder, &["typo", "set.r01"], "three files are needed");
+    no_verdict(&folder, &["pipe"], "three files are needed");
+}
+
 /// `--` ends the options: what follows are names, also such as look like options.
 #[test]
 fn end_of_options() {

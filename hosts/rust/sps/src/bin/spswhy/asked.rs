@@ -87,8 +87,14 @@ fn names(words: &[OsString]) -> Result<What, String> {
     match <[PathBuf; 3]>::try_from(paths.clone()) {
         Ok(three) if !folders || any(Path::is_file) => Ok(What::Set(three)),
         _ if folders => Ok(What::Folders(paths)),
-        _ => Err(NEEDED.to_owned()),
+        _ => Err(none_there(&paths).unwrap_or_else(|| NEEDED.to_owned())),
     }
+}
+
+/// Where no name is that of anything, the first of them.
+fn none_there(paths: &[PathBuf]) -> Option<String> {
+    let first = paths.first().filter(|_| !paths.iter().any(|path| path.exists()))?;
+    Some(format!("{} is no file and no folder; --help says more", first.display()))
 }
 
 /// Holds that no word is standard input, and that the first is no option that is not known.
