@@ -62,7 +62,13 @@ pub fn like(file: &Judged) -> Vec<String> {
 fn odd_line(bytes: &[u8], is_whole: bool) -> Option<String> {
     let lines = (1..).zip(bytes.split_inclusive(|byte| *byte == b'\n'));
     let mut odd = lines.filter_map(|(line, text)| match text {
-        [columns @ .., b'\r', b'\n'] => other_width(line, columns),
+        [columns @ .., b'\r', b'\n'] if columns.len() == 80 => None,
+        [columns @ .., b'\r', b'\n'] if !columns.contains(&b'\r') => {
+            Some(other_width(line, columns))
+        }
+        _ if text.contains(&b'\r') && (is_whole || text.ends_with(b"\n")) => {
+            Some(CR_ALONE.with(&[&line]))
+        }
         [.., b'\n'] => Some(LF_ALONE.with(&[&line])),
         last if is_whole => no_line_end(line, last),
         _ => None,
@@ -71,22 +77,17 @@ fn odd_line(bytes: &[u8], is_whole: bool) -> Option<String> {
 }
 
 /// A line with CR and LF whose columns are not 80.
-fn other_width(line: u64, columns: &[u8]) -> Option<String> {
-    let number = columns.len() as u64;
+fn other_width(line: u64, columns: &[u8]) -> String {
     let words = match columns {
-        _ if number == 80 => return None,
         [.., b' '] => OTHER_WIDTH,
-        _ if number < 80 => CUT_BLANKS,
+        _ if columns.len() < 80 => CUT_BLANKS,
         _ => OTHER_WIDTH,
     };
-    Some(words.with(&[&line, &counted(number, "column")]))
+    words.with(&[&line, &counted(columns.len() as u64, "column")])
 }
 
 /// The bytes after the last LF, but for what ends the file.
 fn no_line_end(line: u64, last: &[u8]) -> Option<String> {
-    if last.contains(&b'\r') {
-        return Some(CR_ALONE.with(&[&line]));
-    }
     let end = last.iter().rev().take_while(|byte| **byte == END).count();
     let columns = counted((last.len() - end) as u64, "column");
     (end < last.len()).then(|| NO_LINE_END.with(&[&line, &columns]))

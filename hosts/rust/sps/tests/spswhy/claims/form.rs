@@ -23,31 +23,37 @@ pub fn length(refused: &Refused, message: &Message) {
     sentences.for_each(|sentence| looks(bytes, sentence));
 }
 
-/// What a sentence says of a file's lines, as LF ends them.
+/// What a sentence says of a file: how it begins, how it ends, or its first line, as LF ends
+/// lines, that is none of 80 columns with CR and LF.
 fn looks(bytes: &[u8], sentence: &str) {
-    let lines: Vec<&[u8]> = bytes.split_inclusive(|byte| *byte == b'\n').collect();
-    if sentence == "The last byte is Ctrl-Z (26), which must go" {
-        return assert_eq!(bytes.last(), Some(&26));
+    let rest = bytes.strip_prefix(b"\xEF\xBB\xBF");
+    match sentence {
+        "The last byte is Ctrl-Z (26), which must go" => assert_eq!(bytes.last(), Some(&26)),
+        "The file is compressed (gzip): unpack it" => assert!(bytes.starts_with(b"\x1F\x8B")),
+        "The file starts with a UTF-8 mark, 3 bytes that must go" => assert!(rest.is_some()),
+        _ => assert_eq!(sentence, odd_line(rest.unwrap_or(bytes))),
     }
-    let rest = sentence.strip_prefix("Line ").unwrap_or_else(|| panic!("{sentence}"));
-    let number = rest.split([' ', ',']).next().and_then(|number| number.parse::<usize>().ok());
-    let number = number.expect("the number of a line");
-    let line = lines[number - 1];
-    let is_one = |line: &&[u8]| line.len() == 82 && line.ends_with(b"\r\n");
-    assert_eq!(lines.iter().position(|line| !is_one(line)), Some(number - 1), "{sentence}");
-    let columns = |number: usize| counted(number, "column");
-    let expected = match line {
-        [.., b'\r', b'\n'] => {
-            format!("has {} and not 80 before CR and LF", columns(line.len() - 2))
-        }
-        [.., b'\n'] => "ends in LF without CR (Unix line ends)".to_owned(),
-        _ if line.contains(&b'\r') => "ends in CR without LF".to_owned(),
-        _ => {
-            let text = line.iter().rev().skip_while(|byte| **byte == 26).count();
-            format!("the last, has {} and no CR and LF", columns(text))
-        }
-    };
-    assert!(rest.contains(&expected), "{sentence}: {expected}");
+}
+
+fn odd_line(bytes: &[u8]) -> String {
+    let lines = (1..).zip(bytes.split_inclusive(|byte| *byte == b'\n'));
+    let mut odd = lines.filter(|(_, line)| !(line.len() == 82 && line.ends_with(b"\r\n")));
+    let (number, line) = odd.next().expect("a line that is none");
+    let text = line.strip_suffix(b"\r\n").unwrap_or(line);
+    let columns = |bytes: &[u8]| counted(bytes.len(), "column");
+    if text.contains(&b'\r') {
+        return format!("Line {number} ends in CR without LF");
+    }
+    if line.ends_with(b"\r\n") {
+        let cut = text.len() < 80 && !text.ends_with(b" ");
+        let why = if cut { " (trailing blanks may be cut)" } else { "" };
+        return format!("Line {number} has {} and not 80 before CR and LF{why}", columns(text));
+    }
+    if line.ends_with(b"\n") {
+        return format!("Line {number} ends in LF without CR (Unix line ends)");
+    }
+    let end = line.iter().rposition(|byte| *byte != 26).map_or(0, |at| at + 1);
+    format!("Line {number}, the last, has {} and no CR and LF", columns(&line[..end]))
 }
 
 /// 2: how many lines there are.

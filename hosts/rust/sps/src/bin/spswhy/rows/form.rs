@@ -126,8 +126,8 @@ pub const ROWS: [Row; 14] = [
         ],
         &[],
     ),
-    row(Byte, NO_CR, &[NEEDS_CR, LF_ALONE, CUT_BLANKS, OTHER_WIDTH], &[]),
-    row(Byte, NO_LF, &[NEEDS_LF], &[]),
+    row(Byte, NO_CR, &[NEEDS_CR, LF_ALONE, CR_ALONE, OTHER_WIDTH, NO_LINE_END, CTRL_Z], &[]),
+    row(Byte, NO_LF, &[NEEDS_LF, CR_ALONE, CTRL_Z], &[]),
     row(Letter, OTHER_LETTER, &[NEEDS_LETTER, LOOKS_LIKE, ORDER_OF_FILES], &[]),
     row(Letter, LATE_HEADER, &[NEEDS_OWN], &[FIRST_DATA]),
     row(
