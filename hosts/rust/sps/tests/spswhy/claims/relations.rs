@@ -45,8 +45,11 @@ pub fn no_shot(refused: &Refused) -> Claims {
     }
     let of_name: Vec<_> = shots.iter().filter(|(_, point)| point.name == source.0).collect();
     let first = format!("shot {} is not in S", place(&source));
-    if let Some((line, point)) = of_name.iter().find(|(_, point)| point.number == source.1) {
-        let found = [first, format!("S has it with index {}", point.index)];
+    let same: Vec<_> = of_name.iter().filter(|(_, point)| point.number == source.1).collect();
+    let live = same.iter().find(|(_, point)| point.state == PointValues::LIVE);
+    if let Some((line, point)) = live.or(same.first()) {
+        let killed = if live.is_none() { ", killed" } else { "" };
+        let found = [first, format!("S has it with index {}{killed}", point.index)];
         return Claims::of(found).beside(S, *line, 2);
     }
     if let Some(line) = marker(refused, S, source) {
@@ -73,7 +76,14 @@ fn nearest(first: String, shots: &Points, (name, number, _): Place) -> Claims {
         numbers.range(..number).next_back().map(|of| (*of, *lines(of).last().expect("one")));
     let above = numbers.range(number..).next().map(|of| (*of, lines(of)[0]));
     let near: Vec<(u64, u32)> = below.into_iter().chain(above).collect();
-    let told: Vec<String> = near.iter().map(|(of, line)| format!("{of} (S line {line})")).collect();
+    let told = near.iter().map(|(of, line)| {
+        let (_, shot) = shots.iter().find(|(of, _)| of == line).expect("the line of a shot");
+        match shot.state {
+            PointValues::KILLED => format!("{of} (S line {line}, killed)"),
+            _ => format!("{of} (S line {line})"),
+        }
+    });
+    let told: Vec<String> = told.collect();
     let claims = Claims::of([first, format!("the nearest of that name: {}", told.join(" and "))]);
     near.iter().fold(claims, |claims, (_, line)| claims.beside(S, *line, 2))
 }

@@ -1,7 +1,7 @@
 //! 13 to 15: relation lines and their shots.
 
 use super::hold;
-use crate::tape;
+use crate::{of, tape};
 use small_sets::place::first;
 use small_sets::File::{S, X};
 use small_sets::{marker, relation, set_a, shot, Line, Set};
@@ -49,6 +49,45 @@ SL1                   5011V1     0.0   0            0.0       0.0   0.0113071245
  ^
 ";
     hold("shots_below_all", &set, "REFUSED 13 X 25 14", expected);
+}
+
+#[test]
+fn between_a_killed_one_and_a_live_one() {
+    let set = tape(&named(502).edit(S, first(), |s| s.code("KL")).add(S, shot(504)));
+    let expected = "\
+set.x01:25:14: refused with 13: no shot is the source of the relation line
+shot L1 502 index 1 is not in S
+the nearest of that name: 501 (S line 25, killed) and 504 (S line 26)
+X100     1111L1                   5021   1   31L1                   101     1031
+             ^
+set.s01:25:2: a near shot
+SL1                   5011KL     0.0   0            0.0       0.0   0.0113071245
+ ^
+set.s01:26:2: a near shot
+SL1                   5041V1     0.0   0            0.0       0.0   0.0113071245
+ ^
+";
+    hold("shots_between_a_killed_one_and_a_live_one", &set, "REFUSED 13 X 25 14", expected);
+}
+
+#[test]
+fn another_index_of_a_killed_one() {
+    let set = set_a().edit(X, first(), |x| x.source_index("3"));
+    let killed = set.edit(S, first(), |s| s.code("KL"));
+    let expected = "\
+set.x01:25:14: refused with 13: no shot is the source of the relation line
+shot L1 501 index 3 is not in S
+S has it with index 1, killed
+X100     1111L1                   5013   1   31L1                   101     1031
+             ^
+set.s01:25:2: a near shot
+SL1                   5011KL     0.0   0            0.0       0.0   0.0113071245
+ ^
+";
+    hold("shots_another_index_of_a_killed_one", &killed, "REFUSED 13 X 25 14", expected);
+    let (status, _, reason) = of("shots_live_too", &killed.add(S, shot(501).index("2")));
+    assert_eq!(status, Some(1));
+    assert!(reason.contains("\nS has it with index 2\n"), "{reason}");
 }
 
 #[test]

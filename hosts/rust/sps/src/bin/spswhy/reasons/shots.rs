@@ -20,9 +20,13 @@ pub fn no_shot<'a>(case: &Case<'a>) -> Option<Told<'a>> {
     }
     let of_name = shots.iter().filter(|(_, point)| point.name == source.name);
     let of_name: Vec<&Line> = of_name.collect();
-    let own = of_name.iter().find(|(_, point)| point.number == source.number);
+    let own = of_name.iter().filter(|(_, point)| point.number == source.number);
+    let own = own.min_by_key(|(_, point)| is_killed(point));
     let marker = marker(s, source);
     let (found, near) = match (own, marker) {
+        (Some((line, point)), _) if is_killed(point) => {
+            (S_HAS_KILLED.with(&[&point.index]), vec![*line])
+        }
         (Some((line, point)), _) => (S_HAS_INDEX.with(&[&point.index]), vec![*line]),
         (None, Some(line)) => (S_MARKER.with(&[&line]), vec![line]),
         (None, None) if of_name.is_empty() => (NO_NAME_IN_S.with(&[&names(&shots)]), Vec::new()),
@@ -33,13 +37,20 @@ pub fn no_shot<'a>(case: &Case<'a>) -> Option<Told<'a>> {
     Some(near.into_iter().fold(told, |told, line| told.beside(s, line, 2, what(line))))
 }
 
+fn is_killed(shot: &Point) -> bool {
+    shot.state == PointState::Killed
+}
+
 /// The shots just below and just above a number, and their lines.
 fn nearest(shots: &[&Line], number: u64) -> (String, Vec<u64>) {
     let of = |(_, point): &&&Line| point.number;
     let below = shots.iter().filter(|shot| of(shot) < number).max_by_key(of);
     let above = shots.iter().filter(|shot| of(shot) > number).min_by_key(of);
     let near: Vec<&Line> = below.into_iter().chain(above).copied().collect();
-    let told = near.iter().map(|(line, point)| format!("{} (S line {line})", point.number));
+    let told = near.iter().map(|(line, point)| {
+        let killed = if is_killed(point) { ", killed" } else { "" };
+        format!("{} (S line {line}{killed})", point.number)
+    });
     let told: Vec<String> = told.collect();
     (NEAREST.with(&[&list(&told)]), near.iter().map(|(line, _)| *line).collect())
 }

@@ -51,6 +51,7 @@ pub const NO_SHOT: Words = Words("no shot is the source of the relation line");
 pub const NOT_IN_S: Words = Words("shot {shot} is not in S");
 pub const NEAREST: Words = Words("the nearest of that name: {shots}");
 pub const S_HAS_INDEX: Words = Words("S has it with index {index}");
+pub const S_HAS_KILLED: Words = Words("S has it with index {index}, killed");
 pub const S_MARKER: Words = Words("S line {line} is a marker");
 pub const NO_NAME_IN_S: Words = Words("S has no shot of that name; it has {names}");
 pub const NEAR_SHOT: Words = Words("a near shot");
@@ -139,7 +140,7 @@ pub const ROWS: [Row; 17] = [
     row(
         NoShot,
         NO_SHOT,
-        &[NOT_IN_S, NEAREST, S_HAS_INDEX, S_MARKER, NO_NAME_IN_S],
+        &[NOT_IN_S, NEAREST, S_HAS_INDEX, S_HAS_KILLED, S_MARKER, NO_NAME_IN_S],
         &[NEAR_SHOT, S_MARKER_LINE],
     ),
     row(NoShot, SHOT_KILLED, &[THAT_SHOT_KILLED], &[KILLED]),
