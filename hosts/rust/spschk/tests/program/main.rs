@@ -175,6 +175,6 @@ fn a_fifo_is_no_file() {
         let folder = Folder::of(&format!("fifo_{}", file.letter()), &set_a()).without(file);
         let made = Command::new("mkfifo").arg(folder.path(file)).status().expect("mkfifo");
         assert!(made.success(), "mkfifo ended with {made}");
-        assert_eq!(folder.says(), no_file(file));
+        assert_eq!(Folder::line(&mut folder.within_limits()), no_file(file));
     }
 }

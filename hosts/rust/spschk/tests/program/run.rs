@@ -63,6 +63,13 @@ impl Folder {
         command
     }
 
+    /// The program, to be run in the folder and ended where it takes longer than ten seconds.
+    pub fn within_limits(&self) -> Command {
+        let mut command = Command::new("timeout");
+        command.current_dir(&self.0).arg("10").arg(program());
+        command
+    }
+
     /// A script, to be run in the folder with the program as its name.
     pub fn shell(&self, script: &str) -> Command {
         let mut command = Command::new("sh");
