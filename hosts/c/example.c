@@ -100,5 +100,10 @@ int main(int count, char **words)
         status = count == 2 ? check_form(files[0]) : check_set(files[0], files[1], files[2]);
     for (at = 0; at < 3; at++)
         free(files[at].bytes);
+    /* A verdict that could not be written is none. */
+    if (fflush(stdout) != 0 || ferror(stdout)) {
+        perror("standard output");
+        status = NO_VERDICT;
+    }
     return status;
 }

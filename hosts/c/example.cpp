@@ -29,14 +29,17 @@ try {
     const Bytes r = read_file(words[1]), s = read_file(words[2]), x = read_file(words[3]);
     const uint64_t answer =
         sps_cross(SPS_DISC, r.data(), r.size(), s.data(), s.size(), x.data(), x.size());
-    if (sps_is_refused(answer)) {
+    const bool refused = sps_is_refused(answer);
+    if (refused)
         std::cout << "REFUSED " << sps_refusal_number(answer) << ' '
                   << "-RSX"[sps_refusal_file(answer)] << ' ' << sps_refusal_line(answer) << ' '
                   << sps_refusal_column(answer) << '\n';
-        return 1;
-    }
-    std::cout << answer << " traces\n";
-    return 0;
+    else
+        std::cout << answer << " traces\n";
+    // A verdict that could not be written is none.
+    if (!std::cout.flush())
+        throw std::runtime_error("standard output cannot be written");
+    return refused ? 1 : 0;
 } catch (const std::exception &error) {
     std::cerr << words[0] << ": " << error.what() << '\n';
     return 2;

@@ -38,6 +38,18 @@ fn no_verdict(program: &Path, words: &[impl AsRef<OsStr>], reason: &str) {
     assert!(text(&output.stderr).contains(reason), "{}", text(&output.stderr));
 }
 
+/// Standard output that is full or closed: no verdict, whether the files are accepted or refused.
+fn unwritable(program: &Path) {
+    for (example, to) in [("set_a", ">/dev/full"), ("odd_channel", ">/dev/full"), ("set_a", ">&-")]
+    {
+        let mut shell = Command::new("sh");
+        shell.args(["-c", &format!("exec \"$0\" \"$@\" {to}")]).arg(program);
+        let output = output(shell.args(files(example)));
+        assert_eq!(output.status.code(), Some(2), "{example} {to}");
+        assert!(text(&output.stderr).contains("standard output"), "{}", text(&output.stderr));
+    }
+}
+
 fn unreadable(program: &Path) {
     let ([r, s, _], missing) = (files("set_a"), root().join("examples/set.r01"));
     no_verdict(program, NONE, "usage: ");
@@ -77,6 +89,7 @@ fn c() {
     unreadable(&program);
     no_verdict(&program, &[root().join("examples")], "examples");
     no_verdict(&program, &[s.with_file_name("set.r02")], "No such file");
+    unwritable(&program);
     long_file(&program);
 }
 
@@ -98,6 +111,7 @@ fn cpp() {
     assert_eq!(ran(&program, &files("killed")), ("9 traces\n".to_owned(), Some(0)));
     assert_eq!(ran(&program, &files("odd_channel")), (refused, Some(1)));
     unreadable(&program);
+    unwritable(&program);
 }
 
 /// Where the archive is missing `make` says what makes it.
