@@ -7,7 +7,7 @@ import subprocess
 import sys
 import unittest
 
-from sps._library import _CALLS
+from sps._library import _CALLS, SONAME
 
 from . import ROOT
 
@@ -32,6 +32,15 @@ class Library(unittest.TestCase):
         found = self.run_with("libc.so.6")
         self.assertEqual(found.returncode, 1)
         self.assertIn("undefined symbol: sps_form", found.stderr)
+
+
+class Version(unittest.TestCase):
+    def test_the_name_that_install_gives(self):
+        """The loader is asked for the library by its name with the major version."""
+        manifest = (ROOT / "hosts/rust/Cargo.toml").read_text()
+        major = re.search(r'^version = "(\d+)\.', manifest, re.MULTILINE).group(1)
+        self.assertIn("soname=libsps.so.${version%%.*}\n", (ROOT / "install").read_text())
+        self.assertEqual(SONAME, f"libsps.so.{major}")
 
 
 class Calls(unittest.TestCase):
