@@ -22,13 +22,14 @@ from ._point import Point, read_point, write_point
 from ._record import Record, Trace
 from ._refused import Number, Refused
 from ._relation import Relation, read_relation, write_relation
-from ._rows import ROW, ROW_DTYPE
+from ._rows import ROW, ROW_DTYPE, ROW_NAMES
 from ._set import DISC, TAPE, Counts, Medium, Set, cross, form
 
 __all__ = [
     "DISC",
     "ROW",
     "ROW_DTYPE",
+    "ROW_NAMES",
     "TAPE",
     "Counts",
     "Medium",

@@ -3,7 +3,7 @@
 from __future__ import annotations
 
 import struct
-from typing import TYPE_CHECKING, List, Optional, Tuple
+from typing import TYPE_CHECKING, Optional
 
 from ._lent import number, writable
 
@@ -13,15 +13,11 @@ if TYPE_CHECKING:
 ROW = struct.Struct("<IIIB?2x")
 """A row: X line, channel, R line, component and killed; two bytes of 0 follow."""
 
-ROW_DTYPE: List[Tuple[str, str]] = [
-    ("x_line", "<u4"),
-    ("channel", "<u4"),
-    ("r_line", "<u4"),
-    ("component", "u1"),
-    ("killed", "?"),
-    ("zero", "<u2"),
-]
+ROW_DTYPE = "<u4,<u4,<u4,u1,?,<u2"
 """The same for numpy: `numpy.frombuffer(rows, dtype=sps.ROW_DTYPE)` takes rows without a copy."""
+
+ROW_NAMES = ("x_line", "channel", "r_line", "component", "killed", "zero")
+"""The names of these columns, which numpy calls f0 to f5: `table.dtype.names = sps.ROW_NAMES`."""
 
 
 def rows(of: Set, first: int, count: Optional[int]) -> bytearray:

@@ -1,8 +1,10 @@
 """The traces of a set as rows."""
 
+import ctypes
 import importlib.util
 import struct
 import unittest
+import unittest.mock
 
 import sps
 
@@ -72,13 +74,39 @@ class Rows(unittest.TestCase):
             self.assertEqual(caught.exception.verdict, "REFUSED 6 X 25 72")
 
     def test_layout(self):
-        """The type for numpy reads a row as `ROW` does."""
+        """The string for numpy reads a row as `ROW` does, and each column has a name."""
         codes = {"<u4": "I", "u1": "B", "?": "?", "<u2": "H"}
-        layout = struct.Struct("<" + "".join(codes[kind] for _, kind in sps.ROW_DTYPE))
+        layout = struct.Struct("<" + "".join(codes[kind] for kind in self.kinds()))
         self.assertEqual(layout.size, sps.ROW.size)
         rows = example("killed").rows()
         found = [row[:-1] for row in layout.iter_unpack(rows)]
         self.assertEqual(found, list(sps.ROW.iter_unpack(rows)))
+        self.assertEqual(len(set(sps.ROW_NAMES)), len(self.kinds()))
+
+    def test_not_copied(self):
+        """Rows are the memory that the call writes, and others read and write them in place."""
+        own, lent = example("killed"), []
+        ask = own.ask
+
+        def told(call, first, room, *words):
+            lent.append(room and ctypes.addressof(room))
+            return ask(call, first, room, *words)
+
+        with unittest.mock.patch.object(sps.Set, "ask", lambda _, *words: told(*words)):
+            rows = own.rows()
+        cells = [("<u4", ctypes.c_uint32), ("u1", ctypes.c_uint8), ("?", ctypes.c_bool)]
+        cells = dict([*cells, ("<u2", ctypes.c_uint16)])
+        fields = [(name, cells[kind]) for name, kind in zip(sps.ROW_NAMES, self.kinds())]
+        row = type("Row", (ctypes.LittleEndianStructure,), {"_fields_": fields})
+        table = (row * (len(rows) // sps.ROW.size)).from_buffer(rows)
+        self.assertEqual(ctypes.addressof(table), lent[-1])
+        self.assertEqual((table[4].r_line, table[4].component, table[4].killed), (26, 2, True))
+        table[4].channel = 77
+        self.assertEqual(sps.ROW.unpack_from(memoryview(rows), 4 * sps.ROW.size)[1], 77)
+
+    def kinds(self):
+        """The kinds of the columns of a row."""
+        return sps.ROW_DTYPE.split(",")
 
     @unittest.skipUnless(importlib.util.find_spec("numpy"), "numpy is not on this machine")
     def test_numpy(self):
@@ -86,6 +114,7 @@ class Rows(unittest.TestCase):
 
         rows = example("killed").rows()
         table = numpy.frombuffer(rows, dtype=sps.ROW_DTYPE)
-        names = [name for name, _ in sps.ROW_DTYPE if name != "zero"]
+        table.dtype.names = sps.ROW_NAMES
+        names = [name for name in sps.ROW_NAMES if name != "zero"]
         self.assertEqual(table[names].tolist(), list(sps.ROW.iter_unpack(rows)))
         self.assertTrue(numpy.shares_memory(table, numpy.frombuffer(rows, dtype="u1")))
