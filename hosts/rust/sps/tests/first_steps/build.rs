@@ -134,21 +134,24 @@ fn proved_once() {
 fn missing_tools() {
     let kit = recorded();
     let kit = kit.split(' ').next().expect("a name");
-    let rt = format!("build: rt is missing; it comes with the Rattle toolchain, the kit {kit}\n");
-    let cargo = "build: cargo is missing; it comes with Rust, from https://rustup.rs\n";
+    let rt = format!("rt is missing (it comes with the Rattle toolchain, the kit {kit})");
+    let cargo = "cargo is missing (it comes with Rust, from https://rustup.rs)";
     for (name, tools, said) in [
         ("build_no_rt", &[("cargo", CARGO)][..], rt.clone()),
         ("build_no_cargo", &[("rt", RT)], cargo.to_owned()),
-        ("build_no_tools", &[], rt + cargo),
+        ("build_no_tools", &[], format!("{rt}; {cargo}")),
     ] {
         let place = repository(name, tools);
         let ended = output(&mut build(&place));
-        assert_eq!((ended.status.code(), text(&ended.stderr)), (Some(2), said));
+        assert_eq!(
+            (ended.status.code(), text(&ended.stderr)),
+            (Some(2), format!("build: {said}\n"))
+        );
         assert_eq!((text(&ended.stdout), asked(&place).len()), (String::new(), 0));
     }
 }
 
-/// Another version of `rt` is told, and is no failure.
+/// Another version of `rt` is told, also where nothing is left to prove, and is no failure.
 #[test]
 fn versions() {
     let place = repository("build_version", &[("rt", RT), ("cargo", CARGO)]);
@@ -159,9 +162,13 @@ fn versions() {
     );
     for (version, noted) in [(recorded().trim(), false), ("another-kit 7", true)] {
         let _ = fs::remove_dir_all(place.join("target"));
-        let ended = output(build(&place).env("RT_VERSION", version));
-        assert!(ended.status.success(), "{ended:?}");
-        assert_eq!(text(&ended.stdout).lines().any(|line| line == note), noted);
+        for first in ["proving libsps: ", "libsps is proved: "] {
+            let ended = output(build(&place).env("RT_VERSION", version));
+            assert!(ended.status.success(), "{ended:?}");
+            let said = text(&ended.stdout);
+            assert!(said.starts_with(first), "{said}");
+            assert_eq!(said.lines().any(|line| line == note), noted, "{said}");
+        }
     }
 }
 
