@@ -34,35 +34,11 @@ fn files_below(folder: &Path) -> Vec<PathBuf> {
     files
 }
 
-/// What `pkg-config` says, or, where the machine has none, the line of `sps.pc` with its variables
-/// put in.
-fn flags(prefix: &Path, asked: &str, field: &str) -> Vec<String> {
-    let folder = prefix.join("lib/pkgconfig");
-    let said =
-        Command::new("pkg-config").arg(asked).arg("sps").env("PKG_CONFIG_PATH", &folder).output();
-    let said = match said {
-        Ok(said) => {
-            assert!(said.status.success(), "{said:?}");
-            text(&said.stdout)
-        }
-        Err(_) => by_hand(&fs::read_to_string(folder.join("sps.pc")).expect("sps.pc"), field),
-    };
-    said.split_whitespace().map(str::to_owned).collect()
-}
-
-/// A field of `sps.pc`, with its variables put in.
-fn by_hand(file: &str, field: &str) -> String {
-    let variables = file.lines().filter_map(|line| line.split_once('='));
-    let value = file.lines().find_map(|line| line.strip_prefix(&format!("{field}: ")));
-    let put =
-        |text: String, (name, value): (&str, &str)| text.replace(&format!("${{{name}}}"), value);
-    variables.rev().fold(value.expect("the field").to_owned(), put)
-}
-
-#[test]
-fn by_hand_says_what_pkg_config_says() {
-    let file = "prefix=/a/b\nlibdir=${prefix}/lib\n\nLibs: -L${libdir} -lsps\n";
-    assert_eq!(by_hand(file, "Libs"), "-L/a/b/lib -lsps");
+/// What `pkg-config` says of the library.
+fn flags(prefix: &Path, asked: &str) -> Vec<String> {
+    let mut said = Command::new("pkg-config");
+    said.arg(asked).arg("sps").env("PKG_CONFIG_PATH", prefix.join("lib/pkgconfig"));
+    printed(&mut said).split_whitespace().map(str::to_owned).collect()
 }
 
 #[test]
@@ -74,8 +50,8 @@ fn example_with_pkg_config() {
 
     let program = prefix.join("example");
     let mut compile = Command::new("cc");
-    compile.arg(root().join("hosts/c/example.c")).args(flags(&prefix, "--cflags", "Cflags"));
-    compile.args(flags(&prefix, "--libs", "Libs")).arg("-o").arg(&program);
+    compile.arg(root().join("hosts/c/example.c")).args(flags(&prefix, "--cflags"));
+    compile.args(flags(&prefix, "--libs")).arg("-o").arg(&program);
     printed(compile.current_dir(&prefix));
     let set = root().join("examples/set_a");
     let mut example = Command::new(&program);
