@@ -40,7 +40,7 @@ fn a_receiver() {
     let line = below(2) + 7;
     let reason = format!(
         "set.r01:{line}:27: refused with 25: {NOT_NAMED}\n\
-         receiver codes are named in columns 33 and 34 of H600, H610 to H690\n\
+         receiver codes are named in columns 33 and 34 of H600, H610, .. H690\n\
          found G2; the header names these receiver codes:\nG1  line {}, H600\nH2  line {}, H690\n\
          RL1                   1021G2     0.0   0            0.0       0.0   0.0113071245\n\
          {:>27}\n",
@@ -57,7 +57,7 @@ fn a_source() {
     let line = first() + 7;
     let reason = format!(
         "set.s01:{line}:27: refused with 25: {NOT_NAMED}\n\
-         source codes are named in columns 33 and 34 of H700, H720 to H880\n\
+         source codes are named in columns 33 and 34 of H700, H720, .. H880\n\
          found V2; the header names these source codes:\nV1  line {}, H700\nS9  line {}, H880\n\
          SL1                   5011V2     0.0   0            0.0       0.0   0.0113071245\n\
          {:>27}\n",
@@ -74,7 +74,8 @@ fn an_instrument() {
     let line = first() + 7;
     let reason = format!(
         "set.x01:{line}:13: refused with 25: {NOT_NAMED}\n\
-         instruments are named in columns 33 and 34 of H400, H420 to H560\n\
+         instruments are named by a digit in column 33 and a comma in column 34 of H400, H420, .. \
+         H560\n\
          found 2; the header names these instruments:\n1  line {}, H400\n7  line {}, H560\n\
          X100     1112L1                   5011   1   31L1                   101     1031\n\
          {:>13}\n",

@@ -90,9 +90,9 @@ pub fn named_twice(refused: &Refused) -> Claims {
 pub fn not_named(refused: &Refused) -> Claims {
     let text = text(refused);
     let (what, tables, code) = match refused.file {
-        R => ("receiver codes", "H600, H610 to H690", &text[26..28]),
-        S => ("source codes", "H700, H720 to H880", &text[26..28]),
-        X => ("instruments", "H400, H420 to H560", &text[12..13]),
+        R => ("receiver codes", "H600, H610, .. H690", &text[26..28]),
+        S => ("source codes", "H700, H720, .. H880", &text[26..28]),
+        X => ("instruments", "H400, H420, .. H560", &text[12..13]),
     };
     let headers = headers(refused, R);
     let of_file = |(line, text): &(u32, String)| {
@@ -107,6 +107,10 @@ pub fn not_named(refused: &Refused) -> Claims {
         true => format!("found {found}; the header names no {what}"),
         false => format!("found {found}; the header names these {what}:"),
     };
-    let tables = format!("{what} are named in columns 33 and 34 of {tables}");
+    let columns = match refused.file {
+        R | S => "in columns 33 and 34",
+        X => "by a digit in column 33 and a comma in column 34",
+    };
+    let tables = format!("{what} are named {columns} of {tables}");
     Claims::of([tables, how].into_iter().chain(named))
 }

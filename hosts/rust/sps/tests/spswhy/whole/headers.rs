@@ -185,7 +185,7 @@ fn a_receiver_code() {
     let set = set_a().put(R, below(3), 27, "G2");
     let expected = "\
 set.r01:27:27: refused with 25: no code table in the header of R names this code
-receiver codes are named in columns 33 and 34 of H600, H610 to H690
+receiver codes are named in columns 33 and 34 of H600, H610, .. H690
 found G2; the header names these receiver codes:
 G1  line 23, H600
 RL1                   1031G2     0.0   0            0.0       0.0   0.0113071245
@@ -199,7 +199,7 @@ fn a_source_code() {
     let set = with(&[header_with(880, "S9"), header_with(600, "V2")]).put(S, below(3), 27, "V2");
     let expected = "\
 set.s01:27:27: refused with 25: no code table in the header of R names this code
-source codes are named in columns 33 and 34 of H700, H720 to H880
+source codes are named in columns 33 and 34 of H700, H720, .. H880
 found V2; the header names these source codes:
 V1  line 24, H700
 S9  line 25, H880
@@ -214,7 +214,7 @@ fn an_instrument() {
     let set = tape(&set_a().put(X, first(), 13, "2"));
     let expected = "\
 set.x01:25:13: refused with 25: no code table in the header of R names this code
-instruments are named in columns 33 and 34 of H400, H420 to H560
+instruments are named by a digit in column 33 and a comma in column 34 of H400, H420, .. H560
 found 2; the header names these instruments:
 1  line 22, H400
 X100     1112L1                   5011   1   31L1                   101     1031
@@ -233,7 +233,7 @@ fn an_instrument_of_no_table() {
     );
     let expected = "\
 set.x01:28:13: refused with 25: no code table in the header of R names this code
-instruments are named in columns 33 and 34 of H400, H420 to H560
+instruments are named by a digit in column 33 and a comma in column 34 of H400, H420, .. H560
 found 2; the header names these instruments:
 1  line 22, H400
 X100     1112L1                   5011   1   31L1                   101     1031
@@ -248,7 +248,7 @@ fn a_blank_instrument() {
         set_a().each(|set, file| set.remove(file, header_line(400))).put(X, last_header(), 13, " ");
     let expected = "\
 set.x01:24:13: refused with 25: no code table in the header of R names this code
-instruments are named in columns 33 and 34 of H400, H420 to H560
+instruments are named by a digit in column 33 and a comma in column 34 of H400, H420, .. H560
 found a blank, which is 1; the header names no instruments
 X100     111 L1                   5011   1   31L1                   101     1031
             ^

@@ -17,9 +17,9 @@ struct Naming {
 /// What the codes that a file uses are called, and the tables that name them.
 fn what(file: File) -> (&'static str, &'static str) {
     match file {
-        R => ("receiver codes", "H600, H610 to H690"),
-        S => ("source codes", "H700, H720 to H880"),
-        X => ("instruments", "H400, H420 to H560"),
+        R => ("receiver codes", "H600, H610, .. H690"),
+        S => ("source codes", "H700, H720, .. H880"),
+        X => ("instruments", "H400, H420, .. H560"),
     }
 }
 
@@ -80,7 +80,11 @@ pub fn not_named<'a>(case: &Case<'a>) -> Option<Told<'a>> {
     let named = naming(r, file);
     let words = if named.is_empty() { NONE_NAMED } else { THESE_NAMED };
     let rows = named.iter().map(|of| NAMED.with(&[&of.code, &of.line, &of.header]));
-    let mut found = vec![TABLES.with(&[&codes, &tables]), words.with(&[&code, &codes])];
+    let tables = match file {
+        R | S => TABLES.with(&[&codes, &tables]),
+        X => TABLES_OF_X.with(&[&codes, &tables]),
+    };
+    let mut found = vec![tables, words.with(&[&code, &codes])];
     found.extend(rows);
     Some(Told::of(CODE_NOT_NAMED, found))
 }

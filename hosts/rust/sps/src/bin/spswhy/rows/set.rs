@@ -118,6 +118,8 @@ pub const CODE_NOT_NAMED: Words = Words("no code table in the header of R names 
 pub const THESE_NAMED: Words = Words("found {code}; the header names these {kind}:");
 pub const NONE_NAMED: Words = Words("found {code}; the header names no {kind}");
 pub const TABLES: Words = Words("{kind} are named in columns 33 and 34 of {headers}");
+pub const TABLES_OF_X: Words =
+    Words("{kind} are named by a digit in column 33 and a comma in column 34 of {headers}");
 pub const NAMED: Words = Words("{code}  line {line}, {header}");
 
 pub const ROWS: [Row; 17] = [
@@ -167,5 +169,5 @@ pub const ROWS: [Row; 17] = [
     ),
     row(CoveredTwice, COVERED_TWICE, &[COVERED], &[COVERS]),
     row(CodeNamedTwice, NAMED_TWICE, &[NAMED_BEFORE], &[FIRST_NAME]),
-    row(CodeNotNamed, CODE_NOT_NAMED, &[TABLES, THESE_NAMED, NAMED, NONE_NAMED], &[]),
+    row(CodeNotNamed, CODE_NOT_NAMED, &[TABLES, TABLES_OF_X, THESE_NAMED, NAMED, NONE_NAMED], &[]),
 ];
