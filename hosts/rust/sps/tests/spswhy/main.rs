@@ -14,6 +14,7 @@ mod message;
 mod messages;
 mod one_file;
 mod reasons;
+mod sentences;
 mod tables;
 mod tapes;
 mod unreadable;

@@ -74,12 +74,13 @@ fn other(lines: &[&str], said: &str) -> Other {
     Other { path, line, column, what, text }
 }
 
-/// A row of the table: what is said of a rule.
+/// A row of the table: what is said of a rule. Of a sentence with the place `{wrong}` there is one
+/// for each text that this place takes.
 pub struct Row {
     pub number: u8,
     pub rule: String,
-    found: Vec<String>,
-    others: Vec<String>,
+    pub found: Vec<String>,
+    pub others: Vec<String>,
 }
 
 /// `docs/MESSAGES.md`.
@@ -97,10 +98,19 @@ impl Row {
     fn of(line: &str) -> Option<Row> {
         let cells: Vec<&str> = line.strip_prefix("| ")?.split(" |").map(str::trim).collect();
         let [number, rule, found, others, ""] = cells[..] else { return None };
+        let (found, wrong) = found.split_once("<br>`{wrong}` is one of: ").unwrap_or((found, ""));
         let plain = |sentence: &str| sentence.trim_matches('`').to_owned();
-        let sentences = |cell: &str| cell.split("<br>").map(plain).collect();
-        let (found, others) = (sentences(found), sentences(others));
-        Some(Row { number: number.parse().ok()?, rule: rule.to_owned(), found, others })
+        let sentences = |cell: &str| -> Vec<String> {
+            cell.split("<br>").filter(|of| !of.is_empty()).map(plain).collect()
+        };
+        let wrong: Vec<String> = wrong.split("`, `").map(plain).collect();
+        let with = |sentence: String| match sentence.contains("{wrong}") {
+            true => wrong.iter().map(|text| sentence.replace("{wrong}", text)).collect(),
+            false => vec![sentence],
+        };
+        let found = sentences(found).into_iter().flat_map(with).collect();
+        let (number, rule) = (number.parse().ok()?, rule.to_owned());
+        Some(Row { number, rule, found, others: sentences(others) })
     }
 
     /// The row of a message's rule.
@@ -109,38 +119,50 @@ impl Row {
         rows.iter().find(is_it).unwrap_or_else(|| panic!("{} has no row", message.rule))
     }
 
-    /// Holds that all of a message is in the row.
-    pub fn hold(&self, message: &Message) {
-        for sentence in &message.found {
-            let parts: Vec<&str> = match self.number {
-                1 => sentence.split(". ").collect(),
-                _ => vec![sentence],
-            };
-            for part in parts {
-                assert!(self.found.iter().any(|words| is(words, part)), "{part}");
-            }
-        }
-        for Other { what, .. } in &message.others {
+    /// Holds that all of a message is in the row, each sentence once, and answers the words of
+    /// the row that it has.
+    pub fn hold(&self, message: &Message) -> Vec<String> {
+        let parts = message.found.iter().flat_map(|sentence| match self.number {
+            1 => sentence.split(". ").collect(),
+            _ => vec![sentence.as_str()],
+        });
+        let found = parts.map(|part| {
+            let of: Vec<&String> = self.found.iter().filter(|words| is(words, part)).collect();
+            let [words] = of[..] else { panic!("{part}: {of:?}") };
+            words.clone()
+        });
+        let others = message.others.iter().map(|Other { what, .. }| {
             assert!(self.others.contains(what), "{what}");
-        }
+            what.clone()
+        });
+        found.chain(others).collect()
     }
 }
 
-/// Whether a sentence is one of words with places, which any text fills: the words stand in it
-/// one after another, the first at its start and the last at its end.
+/// Whether a sentence is one of words with places.
 fn is(words: &str, sentence: &str) -> bool {
-    let mut parts: Vec<&str> = words.split('{').collect();
-    let after = |part: &str| part.split_once('}').expect("a place").1.len();
-    for at in 1..parts.len() {
-        parts[at] = &parts[at][parts[at].len() - after(parts[at])..];
+    let Some((before, rest)) = words.split_once('{') else { return words == sentence };
+    let (place, behind) = rest.split_once('}').expect("a place");
+    let Some(sentence) = sentence.strip_prefix(before) else { return false };
+    let ends = (1..=sentence.len()).filter(|at| sentence.is_char_boundary(*at));
+    ends.into_iter().any(|at| fills(place, &sentence[..at]) && is(behind, &sentence[at..]))
+}
+
+/// Whether a text may stand in a place.
+fn fills(place: &str, text: &str) -> bool {
+    match place {
+        "line" | "column" | "width" | "point" | "index" | "day" | "time" | "from" | "to"
+        | "increment" | "instrument" | "channel" | "number" | "record" => {
+            text.bytes().all(|byte| byte.is_ascii_digit())
+        }
+        "value" | "limit" => text.parse::<f64>().is_ok(),
+        "part" => ["hour", "minute", "second"].contains(&text),
+        "codes" => match text.as_bytes() {
+            [letter, b'1', b' ', b't', b'o', b' ', last, b'9'] => letter == last,
+            code => [b"PM", b"KL"].iter().any(|of| of[..] == *code),
+        },
+        _ => true,
     }
-    let [first, middle @ .., last] = &parts[..] else { return words == sentence };
-    let Some(mut rest) = sentence.strip_prefix(first) else { return false };
-    for part in middle {
-        let Some((_, behind)) = rest.split_once(part) else { return false };
-        rest = behind;
-    }
-    rest.ends_with(last)
 }
 
 /// The characters of a line of a file, R 1, S 2, X 3, as they are shown.

@@ -5,7 +5,7 @@ use crate::message::{shown, Message, Other, Row};
 use crate::{folder, of, said, spswhy, write, NAMES};
 use small_sets::place::{below, first};
 use small_sets::{set_a, table, File, Question};
-use std::collections::{BTreeMap, BTreeSet};
+use std::collections::BTreeMap;
 
 #[test]
 fn accepted() {
@@ -50,7 +50,7 @@ pub fn last_two(text: &str) -> [&str; 2] {
 }
 
 /// The refused sets of the table: some of each number, medium and column, one that is large.
-fn refused() -> Vec<Refused> {
+pub fn refused() -> Vec<Refused> {
     let cases = table().into_iter().filter(|case| case.question == Question::Cross);
     let mut turns = BTreeMap::new();
     let taken = cases.filter_map(|case| Refused::of(case.set)).filter(|of| {
@@ -63,19 +63,16 @@ fn refused() -> Vec<Refused> {
 }
 
 /// Of every number that a set is refused for: the place, one of its rules in the table with its
-/// sentences, and the line with its mark where there is one; the other lines likewise. Every rule
-/// of the table is told.
+/// sentences, and the line with its mark where there is one; the other lines likewise.
 #[test]
 fn each_number() {
     let (rows, refused) = (Row::all(), refused());
-    let mut rules = BTreeSet::new();
     for (refused, said) in refused.iter().zip(said_of("each_number", &refused)) {
         let Refused { set, number, file, line, column } = refused;
         let (message, path, at, mark) = Message::read(&said);
         assert!(path.ends_with(refused.name()), "{said}");
         assert_eq!((message.number, at, mark), (*number, *line, *column));
         Row::of_message(&rows, &message).hold(&message);
-        rules.insert((*number, message.rule));
         let own = (*column > 0).then(|| cut(shown(set, *file as u8, *line)));
         assert_eq!(message.text.map(cut), own);
         for Other { path, line, text, .. } in message.others {
@@ -84,9 +81,6 @@ fn each_number() {
             assert_eq!(cut(text), cut(shown(set, file, line)), "{said}");
         }
     }
-    let told = rows.into_iter().map(|row| (row.number, row.rule));
-    let told: BTreeSet<_> = told.filter(|(number, _)| !(20..=23).contains(number)).collect();
-    assert_eq!(rules, told);
 }
 
 /// The columns of a line without CR and LF.

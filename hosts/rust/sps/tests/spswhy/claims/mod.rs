@@ -9,6 +9,7 @@ mod points;
 mod relations;
 
 use crate::message::{Message, Row};
+use crate::sentences::rare;
 use made::{made, said_of};
 use small_sets::File;
 use std::collections::BTreeMap;
@@ -62,7 +63,8 @@ const SENTENCES: [Sentences; 4] =
 
 #[test]
 fn of_made_sets() {
-    let (rows, refused) = (Row::all(), made());
+    let rows = Row::all();
+    let refused: Vec<made::Refused> = made().into_iter().chain(rare()).collect();
     let mut turns = BTreeMap::new();
     for (refused, said) in refused.iter().zip(said_of("claims", &refused)) {
         let (message, path, line, column) = Message::read(&said);

@@ -57,16 +57,18 @@ fn number(text: &str, least: i64, most: i64, spelling: Spelling) -> Option<Strin
     let digits: String = size.chars().filter(char::is_ascii_digit).collect();
     let size_in_units: i64 = digits.parse().ok()?;
     let value = if text.contains('-') { -size_in_units } else { size_in_units };
-    let (words, limit) = match value {
-        _ if value > most => (ABOVE, most),
-        _ if value < least => (BELOW, least),
-        _ => return None,
+    let counts_tenths = spelling == Spelling::Either && !size.contains('.');
+    let (words, limit) = match counts_tenths {
+        _ if (least..=most).contains(&value) => return None,
+        false if value > most => (ABOVE, most),
+        false => (BELOW, least),
+        true if value > most => (TENTHS_ABOVE, most),
+        true => (TENTHS_BELOW, least),
     };
-    if spelling == Spelling::Whole {
-        return Some(words.with(&[&value, &limit]));
-    }
-    let wrong = words.with(&[&tenths(value), &tenths(limit)]);
-    Some(if size.contains('.') { wrong } else { TENTHS.with(&[&wrong]) })
+    Some(match spelling {
+        Spelling::Whole => words.with(&[&value, &limit]),
+        Spelling::Either | Spelling::Pointed => words.with(&[&tenths(value), &tenths(limit)]),
+    })
 }
 
 /// The digits and the point of a number, or what is wrong with its spelling.

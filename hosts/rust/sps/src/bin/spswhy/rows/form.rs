@@ -61,7 +61,10 @@ pub const BEFORE_POINT: Words = Words("needs a digit before the point");
 pub const AFTER_POINT: Words = Words("needs exactly one digit after the point");
 pub const ABOVE: Words = Words("{value} is above {limit}");
 pub const BELOW: Words = Words("{value} is below {limit}");
-pub const TENTHS: Words = Words("without a point it counts tenths, and {wrong}");
+pub const TENTHS_ABOVE: Words =
+    Words("without a point it counts tenths, and {value} is above {limit}");
+pub const TENTHS_BELOW: Words =
+    Words("without a point it counts tenths, and {value} is below {limit}");
 pub const NOT_1_TO_9: Words = Words("needs 1 to 9, or a blank for 1");
 pub const OTHER_CODE: Words = Words("is a code of {file} and not of {file}");
 pub const NO_CODE: Words = Words("is no code of {file}");
@@ -130,11 +133,11 @@ pub const ROWS: [Row; 14] = [
     row(Byte, NO_LF, &[NEEDS_LF, CR_ALONE, CTRL_Z], &[]),
     row(Letter, OTHER_LETTER, &[NEEDS_LETTER, LOOKS_LIKE, ORDER_OF_FILES], &[]),
     row(Letter, LATE_HEADER, &[NEEDS_OWN], &[FIRST_DATA]),
-    row(
-        Field,
-        BROKEN_FIELD,
-        &[
-            WRONG,
+    Row {
+        number: Field,
+        rule: BROKEN_FIELD,
+        found: &[WRONG, TAKES, FAMILY],
+        wrong: &[
             BLANK,
             FIRST_BLANK,
             NOT_LAST,
@@ -148,7 +151,8 @@ pub const ROWS: [Row; 14] = [
             AFTER_POINT,
             ABOVE,
             BELOW,
-            TENTHS,
+            TENTHS_ABOVE,
+            TENTHS_BELOW,
             NOT_1_TO_9,
             OTHER_CODE,
             NO_CODE,
@@ -156,11 +160,9 @@ pub const ROWS: [Row; 14] = [
             TIME_PART,
             TWO_DIGITS,
             BLANK_OR_DIGIT,
-            TAKES,
-            FAMILY,
         ],
-        &[],
-    ),
+        others: &[],
+    },
     row(Channels, CROSSED, &[FROM_ABOVE_TO], &[]),
     row(Channels, NO_MULTIPLE, &[CHANNELS_BY], &[]),
     row(Channels, OTHER_RECEIVERS, &[CHANNELS_AND_RECEIVERS], &[]),
