@@ -6,6 +6,7 @@ mod program;
 mod any_bytes;
 mod claims;
 mod codes;
+mod fields;
 mod folders;
 mod json;
 mod killed;
