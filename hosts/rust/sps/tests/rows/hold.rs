@@ -69,15 +69,19 @@ pub fn firsts(traces: u64) -> [u64; 10] {
     [0, 1, traces / 2, before, last, traces, traces + 1, 1 << 32, 1 << 60, u64::MAX]
 }
 
-/// Holds a set in chunks of one to five places, with bytes over that are no place, then without a
-/// place, from beyond the last trace on, and through the wrapper.
+/// How many traces are gone through in chunks of exactly one to five places.
+const FEW: usize = 200;
+
+/// Holds a set in chunks of one to five places, or longer ones where there are many traces, with
+/// bytes over that are no place; then without a place, from beyond the last trace on, and through
+/// the wrapper.
 pub fn hold_all(set: &Set) -> Told {
     let told = told(set);
     let traces = told.rows.len();
-    // Where there are many traces a walk through them takes longer steps.
-    for (step, over) in (1..=5).map(|places| (places + traces / 20, places)) {
-        for first in (0..traces.max(1)).step_by(step) {
-            hold(set, &told, first as u64, 16 * step + over);
+    let more = if traces > FEW { traces / 20 } else { 0 };
+    for places in 1..=5 {
+        for first in (0..traces.max(1)).step_by(places + more) {
+            hold(set, &told, first as u64, 16 * (places + more) + places);
         }
     }
     hold(set, &told, 0, 0);

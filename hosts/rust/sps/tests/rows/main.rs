@@ -1,7 +1,7 @@
 //! All traces of a set as rows: the proved call and the naive reader go through the same sets,
-//! sound and damaged, on disc and on tape, and every byte that is lent is held, in chunks of every
-//! small size and from any trace on. The rows stand beside the lookup, the way back and the spread
-//! table of each record, and the wrapper gives them out typed.
+//! sound and damaged, on disc and on tape, and every byte that is lent is held, in chunks of one to
+//! five rows, longer ones where a set has many, and from any trace on. The rows stand beside the
+//! lookup, the way back and the spread table of each record, and the wrapper gives them out typed.
 //!
 //! `PROBE_SEED` gives another seed, and `PROBE_TIMES` so many times the sets. A set on which
 //! they differ is kept below cargo's directory for tests.
