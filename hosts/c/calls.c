@@ -171,7 +171,8 @@ static void out_of_range(struct set set)
     SAME(sps_spread(FILES(set), tape, 6, UINT64_MAX, lines, 6, components, 3), no);
 }
 
-/* A spread table: the answer, and how many places are written. All else stays, also a byte behind. */
+/* A spread table: the answer, and how many places are written. All else stays, also a byte
+   behind. */
 static void spread(struct set set, uint64_t record, size_t lines_len, size_t components_len,
                    uint64_t expected, size_t places)
 {

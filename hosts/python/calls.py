@@ -137,7 +137,8 @@ def refusals(sps, set_a, last):
     assert sps.sps_cross(TAPE, None, 0, None, 0, None, 0) == refusal(29, 1, 1, 0)
     assert sps.sps_trace(*set_a, b"100", 3, 11, 2) == refusal(20, 0, 0, 0)
     assert sps.sps_trace(*set_a, b"100   ", 6, 2**64 - 1, 2) == refusal(20, 0, 0, 0)
-    for kind, code in ((ord("R"), b"V1"), (ord("S"), b"KL"), (ord("X"), b"1,"), (ord("H"), b"G1"), (2**32 + 82, b"G1")):
+    others = (("R", b"V1"), ("S", b"KL"), ("X", b"1,"), ("H", b"G1"))
+    for kind, code in (*((ord(kind), code) for kind, code in others), (2**32 + 82, b"G1")):
         assert sps.sps_table_line(*set_a, kind, code, 2) == refusal(20, 0, 0, 0)
     assert sps.sps_table_line(*cut, ord("R"), b"G1", 2) == refusal(1, 1, last, 0)
 

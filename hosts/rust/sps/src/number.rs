@@ -195,7 +195,8 @@ impl Number {
                  shot that has them is killed"
             }
             ShotOrder => {
-                "the shot of the relation line stands in S before that of the previous relation line"
+                "the shot of the relation line stands in S before that of the previous relation \
+                 line"
             }
             ShotNotNamed => "no relation line names this shot",
             Record => {

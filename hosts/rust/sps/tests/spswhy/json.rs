@@ -23,7 +23,12 @@ const FILES: &str = r#""files":{"R":"set.r01","S":"set.s01","X":"set.x01"}"#;
 fn accepted() {
     let counts = r#"{"receivers":3,"shots":1,"relations":1,"traces":3,"dead_traces":0}"#;
     let expected = format!(
-        r#"{{"folder":null,{FILES},"status":0,"verdict":"ACCEPTED 3 1 1 3 0","counts":{counts},"refusal":null,"error":null}}"#
+        concat!(
+            r#"{{"folder":null,{files},"status":0,"verdict":"ACCEPTED 3 1 1 3 0","#,
+            r#""counts":{counts},"refusal":null,"error":null}}"#,
+        ),
+        files = FILES,
+        counts = counts,
     );
     assert_eq!(of("json_accepted", &set_a()), (Some(0), expected + "\n"));
 }
@@ -56,7 +61,10 @@ fn no_line() {
     let set = Set { medium: small_sets::Medium::Disc, ..tape(&set_a()) };
     let (status, object) = of("json_no_line", &set);
     assert_eq!(status, Some(1));
-    let end = r#""text":null,"others":[],"looks":"each of set.r01, set.s01, set.x01 looks like a tape, which --tape judges"},"error":null}"#;
+    let end = concat!(
+        r#""text":null,"others":[],"looks":"each of set.r01, set.s01, set.x01 looks like a tape, "#,
+        r#"which --tape judges"},"error":null}"#,
+    );
     assert!(object.ends_with(&format!("{end}\n")), "{object}");
 }
 
@@ -67,7 +75,10 @@ fn one_file() {
     write(&folder, &tape(&set_a()));
     let (status, object, _) =
         said(spswhy(&folder, &["--json", "--tape", "--kind", "S", "set.s01"]));
-    let expected = r#"{"folder":null,"files":{"S":"set.s01"},"status":0,"verdict":"ACCEPTED","counts":null,"refusal":null,"error":null}"#;
+    let expected = concat!(
+        r#"{"folder":null,"files":{"S":"set.s01"},"status":0,"verdict":"ACCEPTED","counts":null,"#,
+        r#""refusal":null,"error":null}"#,
+    );
     assert_eq!((status, object), (Some(0), format!("{expected}\n")));
 }
 
@@ -86,7 +97,10 @@ fn folders() {
     let files = r#"{"folder":"a","files":{"R":"a/"#;
     assert_eq!(starts[0], files);
     assert_eq!(starts[1], files.replace('a', "b").replace("foldeb", "folder"));
-    let last = r#"{"folder":"c","files":{},"status":2,"verdict":null,"counts":null,"refusal":null,"error":"c: no file of R, whose name ends as .r01 does"}"#;
+    let last = concat!(
+        r#"{"folder":"c","files":{},"status":2,"verdict":null,"counts":null,"refusal":null,"#,
+        r#""error":"c: no file of R, whose name ends as .r01 does"}"#,
+    );
     assert_eq!(objects.lines().last(), Some(last));
     assert_eq!(
         said(spswhy(&above, &["--json", "c"])),
@@ -109,6 +123,10 @@ fn escapes() {
     let escaped = r#"q\"b\\n\u000a\u001b"#.to_owned() + "\u{FFFD}\u{E9}";
     let start = format!(r#"{{"folder":"{escaped}","files":{{"R":"{escaped}/set.r01","#);
     assert!(object.starts_with(&start), "{object}");
-    assert!(object.contains(r#""found":["column 80: found DEL (127); columns 1 to 80 take bytes 32 to 126"],"text":"H06"#), "{object}");
+    let found = concat!(
+        r#""found":["column 80: found DEL (127); columns 1 to 80 take bytes 32 to 126"],"#,
+        r#""text":"H06"#,
+    );
+    assert!(object.contains(found), "{object}");
     assert!(object.contains(r#" \\\"/?","others":[]"#), "{object}");
 }
