@@ -1,5 +1,6 @@
 //! Whole messages: all that is said of a set, at least of two a number.
 
+mod ends;
 mod headers;
 mod lengths;
 mod lines;
