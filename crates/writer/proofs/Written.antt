@@ -36,7 +36,8 @@ back live = refl
 back killed = refl
 back marker = refl
 
-pub agrees-is : (c : ℕ) (v s : State) → v ≡ codedState (stateOf (bytesOf 2 c)) → sameState (stateIn v) (stateIn s) ≡ sameState (stateOf (textOf 2 0 c)) (stateIn s)
+pub agrees-is : (c : ℕ) (v s : State) → v ≡ codedState (stateOf (bytesOf 2 c))
+    → sameState (stateIn v) (stateIn s) ≡ sameState (stateOf (textOf 2 0 c)) (stateIn s)
 agrees-is c v s e =
     let p : stateOf (textOf 2 0 c) ≡ stateIn v = ap stateOf (text-short 2 0 c (omega arith)) ∙ back _ ∙ ap stateIn (sym e) in
     ap (λ (u : PaperState). sameState u (stateIn s)) (sym p)
