@@ -1,3 +1,4 @@
+#![tactic(auto)]
 // The code tables of R's header: 24, then 25 over R, S and X. One pass over the header notes which codes are named, one pass over the lines
 // of each file asks for those that they use.
 ghost use Rattle.std.specs.Prelude.{◌≡◌, [], ◌∷◌, ◌≤◌, ◌<◌, length, replicate, true, not};

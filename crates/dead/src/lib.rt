@@ -1,3 +1,4 @@
+#![tactic(auto)]
 // Dead traces: the channels that lead to killed receivers. In the order of name, index and number the receivers of a relation line are
 // neighbours, so how many of them are killed is the difference of two running counts; no step is taken for a trace or a receiver of a line.
 ghost use Rattle.std.specs.Prelude.{◌≡◌, ◌<◌, length};

@@ -14,7 +14,7 @@ const BOTH: u8 = 3;
 const DIGIT: u8 = 0;
 
 // A family of codes: its letter, what follows the letter, and the files in which it may stand.
-#[derive(Drop)]
+#[derive(Clone, Copy)]
 pub struct Family(pub u8, pub u8, pub u8);
 
 const FAMILIES: [Family; 10] = [

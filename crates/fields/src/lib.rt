@@ -1,3 +1,4 @@
+#![tactic(auto)]
 // Fields: what columns a to b of a line hold, each read once over the columns and the width, and the rules of fields.
 // Columns count from 1 as in the paper. A number is its sign and its size; the signed value is made once, where it is kept.
 ghost use Rattle.std.specs.Prelude.{◌≡◌};
@@ -14,7 +15,7 @@ pub mod numbers;
 pub mod ranges;
 
 // What a field holds: malformed, or a sign and a size.
-#[derive(Drop)]
+#[derive(Clone, Copy)]
 pub enum Number {
     Malformed,
     Plus(u64),
@@ -22,14 +23,14 @@ pub enum Number {
 }
 
 // A line name: all its 16 columns, as two numbers of 8 bytes.
-#[derive(Drop)]
+#[derive(Clone, Copy)]
 pub struct Name {
     pub hi: u64,
     pub lo: u64,
 }
 
 // The rule of a field, as the paper's tables give it beside the columns.
-#[derive(Drop)]
+#[derive(Clone, Copy)]
 pub enum Kind {
     StartsNonBlank,
     DigitsOnly,

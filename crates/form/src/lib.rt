@@ -1,3 +1,4 @@
+#![tactic(auto)]
 // The form of one file: the first breach of 1 to 6, in the paper's order. 1, 2, on tape 29, then line by line 3 (whole line), 4, 5, 6.
 ghost use Rattle.std.specs.Prelude.{◌≡◌, true, false, ◌&&◌, ◌+◌, ◌≤◌, ◌<◌};
 ghost use Rattle.rules.specs.Plan.{run, up_to};

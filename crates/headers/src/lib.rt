@@ -1,3 +1,4 @@
+#![tactic(auto)]
 // The headers: 7 and 8 of R, then 9 of S and of X against R, each the first breach in the paper's order.
 ghost use Rattle.std.specs.Prelude.{◌≡◌, ◌≤◌, ◌<◌, min, length};
 ghost use Rattle.rules.specs.Plan.{run, up_to};

@@ -1,3 +1,4 @@
+#![tactic(auto)]
 // The keys of lines: three numbers, read from the text where two lines are compared. By them lines are put in order and found again;
 // nothing is kept of a line but its number. Keys are read in the medium's own bytes, so that no line is translated for them and names are in
 // the medium's order; of a line that the form check has passed a key says what its fields say.
@@ -18,7 +19,7 @@ use records::state::State;
 mod parts;
 
 // What lines are compared by: points by name, number and index; receivers by name, index and number; relation lines by record and tape.
-#[derive(Drop)]
+#[derive(Clone, Copy)]
 pub enum By {
     Points,
     Receivers,
@@ -26,14 +27,14 @@ pub enum By {
 }
 
 // A file's lines by their keys: how the file is read, and which key is meant.
-#[derive(Drop)]
+#[derive(Clone, Copy)]
 pub struct Keyed {
     pub how: Reading,
     pub by: By,
 }
 
 // Three numbers, compared one after the other.
-#[derive(Drop)]
+#[derive(Clone, Copy)]
 pub struct Key {
     pub first: u64,
     pub second: u64,

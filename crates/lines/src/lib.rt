@@ -1,3 +1,4 @@
+#![tactic(auto)]
 // The medium: a file as lines of 80 columns, and what it refuses (1, 2, and 3's column of a line).
 // Lines count from 0 here; above this crate nobody knows how many bytes a line has.
 ghost use Rattle.std.specs.Prelude.{◌≡◌, ℕ, ◌+◌, ◌*◌, ◌<◌, ◌≤◌, true, length, take, ◌==◌};
@@ -24,21 +25,21 @@ pub use letters::{kind_of, letter};
 pub const MOST_LINES: usize = 9999;
 
 // What a check says of a file or a set: nothing to refuse, or number, file (R 1, S 2, X 3), line and column.
-#[derive(Drop)]
+#[derive(Clone, Copy)]
 pub enum Verdict {
     Fine,
     Refused(u8, u8, u32, u8),
 }
 
 // The form in which files come.
-#[derive(Drop)]
+#[derive(Clone, Copy)]
 pub enum Medium {
     Disc,
     Tape,
 }
 
 // How the files of a set are read. Only this crate looks into it.
-#[derive(Drop)]
+#[derive(Clone, Copy)]
 pub struct Reading {
     pub medium: Medium,
 }
@@ -53,7 +54,7 @@ pub fn disc() -> Reading
 }
 
 // What a caller's number says of the medium: how files are read, or nothing.
-#[derive(Drop)]
+#[derive(Clone, Copy)]
 pub enum Choice {
     On(Reading),
     None,

@@ -1,3 +1,4 @@
+#![tactic(auto)]
 // Relation lines of one tape and record: they stand together, with one shot, increment and instrument (16), and their channels rise (17).
 ghost use Rattle.std.specs.Prelude.{◌≡◌, true, ◌<◌};
 ghost use Rattle.rules.specs.Places.{pick};

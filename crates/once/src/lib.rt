@@ -1,3 +1,4 @@
+#![tactic(auto)]
 // 19: no receiver is covered twice in a record. The first lines of a record are compared by pairs; from there on the rows that the record has
 // covered are marked, with a number that no other record has.
 ghost use Rattle.std.specs.Prelude.{◌≡◌, ◌+◌, ◌≤◌, ◌<◌, length};

@@ -1,3 +1,4 @@
+#![tactic(auto)]
 // Calls for the tests of the hosts: what a line shows, what a line or a file is refused for, and the values of a line. They only carry
 // over to numbers and slices what the readers answer.
 ghost use Rattle.std.specs.Prelude.{◌≡◌, length};

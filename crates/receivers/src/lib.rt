@@ -1,3 +1,4 @@
+#![tactic(auto)]
 // Receivers in the order of name, index and number: the receivers of a relation line are neighbours there. o holds the lines of R in that
 // order; a place of it is a row. 18 takes two looks: the row of the lowest receiver, and the row of the highest, as far behind it as their numbers.
 ghost use Rattle.std.specs.Prelude.{◌≡◌, ◌<◌, length};

@@ -12,13 +12,13 @@ use crate::{relation, state};
 use fields::{Name, Number, bytes, names, numbers, ranges};
 
 // A field that may be blank.
-#[derive(Drop)]
+#[derive(Clone, Copy)]
 pub enum Held {
     Absent,
     Value(i64),
 }
 
-#[derive(Drop)]
+#[derive(Clone, Copy)]
 pub struct Point {
     pub name: Name,
     pub number: u32,

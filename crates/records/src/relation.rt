@@ -10,7 +10,7 @@ ghost use Rattle.records.specs.Coded.{coded_reach, coded_relation};
 use fields::{Name, bytes, names, numbers, ranges};
 
 // What a relation line covers, of which tape and record.
-#[derive(Drop)]
+#[derive(Clone, Copy)]
 pub struct Reach {
     pub tape: u64,
     pub number: u32,
@@ -24,7 +24,7 @@ pub struct Reach {
 }
 
 // The reach, its shot, the record increment and the instrument.
-#[derive(Drop)]
+#[derive(Clone, Copy)]
 pub struct Relation {
     pub increment: u32,
     pub instrument: u32,

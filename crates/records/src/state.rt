@@ -10,7 +10,7 @@ ghost use Rattle.records.specs.Coded.{coded_state};
 
 use lines::Reading;
 
-#[derive(Drop)]
+#[derive(Clone, Copy)]
 pub enum State {
     Live,
     Killed,

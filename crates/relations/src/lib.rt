@@ -1,3 +1,4 @@
+#![tactic(auto)]
 // 13, 14, 16 to 19 of the relation lines, in one pass over X.
 ghost use Rattle.std.specs.Prelude.{◌≡◌};
 ghost use Rattle.rules.specs.Plan.{run};

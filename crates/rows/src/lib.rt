@@ -1,3 +1,4 @@
+#![tactic(auto)]
 // All traces of an accepted set as rows of sixteen bytes, in the order of X, line by line and channel by channel: the rows from one number on
 // go into the places of a lent slice. Two arrays are its own: the receivers of R in their order, and which of them are killed.
 ghost use Rattle.std.specs.Prelude.{◌≡◌, suc, ◌/◌, ◌<◌, min, ◌-◌, List, ℕ, length};
@@ -16,14 +17,14 @@ mod part;
 mod row;
 
 // How the files are read, and the number of the first trace that is wanted.
-#[derive(Drop)]
+#[derive(Clone, Copy)]
 pub struct Wanted {
     pub how: Reading,
     pub first: u64,
 }
 
 // A line of X, from 0, and how many traces the lines above it have.
-#[derive(Drop)]
+#[derive(Clone, Copy)]
 struct Line {
     k: usize,
     above: u64,

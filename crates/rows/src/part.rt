@@ -11,7 +11,7 @@ use records::relation::Reach;
 use spread::led;
 
 // The number of the line, the first channel that is put, its place, and the place after the last one's.
-#[derive(Drop)]
+#[derive(Clone, Copy)]
 pub struct Part {
     pub line: u32,
     pub channel: usize,

@@ -1,3 +1,4 @@
+#![tactic(auto)]
 // The cross-check: the form of R, S and X, the header rules, the code tables, then the rules across the files, and the counts of an accepted set.
 // Two arrays of line numbers are its own, 80 KB of its stack; nothing is allocated.
 ghost use Rattle.std.specs.Prelude.{◌≡◌};
@@ -16,7 +17,7 @@ mod counts;
 
 // What the cross-check answers: accepted, with receivers, shots, relation lines, traces and dead traces; or refused, with number, file (R 1, S 2,
 // X 3), line and column.
-#[derive(Drop)]
+#[derive(Clone, Copy)]
 pub enum Answer {
     Accepted(u64, u64, u64, u64, u64),
     Refused(u8, u8, u32, u8),

@@ -1,3 +1,4 @@
+#![tactic(auto)]
 // The shots of relation lines: each is in S and not killed (13), none before that of the line before (14), and every shot that is not killed
 // is named (15). Shots stand once in S, and relation lines go along with it: the shot of a line is looked for from that of the line before on.
 ghost use Rattle.std.specs.Prelude.{◌≡◌, ◌<◌, not, ◌&&◌};

@@ -1,3 +1,4 @@
+#![tactic(auto)]
 // The spread table of a record: its highest covered channel, and the R line and component of each channel up to it, written into
 // two lent slices. One array is its own: the receivers of R in their order.
 ghost use Rattle.std.specs.Prelude.{◌≡◌, ◌*◌, ◌/◌, ◌≤◌, length, take};

@@ -10,7 +10,7 @@ use lines::Reading;
 use records::{fits, relation};
 
 // A tape, its six bytes as one number, and the number of a record.
-#[derive(Drop)]
+#[derive(Clone, Copy)]
 pub struct Wanted {
     pub tape: u64,
     pub number: u64,

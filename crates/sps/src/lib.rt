@@ -1,3 +1,4 @@
+#![tactic(auto)]
 // The calls for C hosts, which `include/sps.h` declares: the form of one file, the cross-check of three, both lookups, the spread table, the
 // line that names a code and all traces as rows, on numbers and byte slices; in `line` the values of one line, read and written.
 // Each carries the answer of the proved call over as one 64-bit number: a refusal from 2^40 on, any other answer below. The number of the

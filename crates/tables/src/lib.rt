@@ -1,3 +1,4 @@
+#![tactic(auto)]
 // What a code was: the header line of R that names it. The question checks the set itself, after its own range.
 ghost use Rattle.std.specs.Prelude.{◌≡◌, true, ◌≤◌};
 ghost use Rattle.rules.specs.Sheet.{most_lines};
@@ -10,7 +11,7 @@ use lines::Reading;
 use sets::Answer as SetAnswer;
 
 // A line of R, 0 where none names the code; or a refusal, with number, file, line and column.
-#[derive(Drop)]
+#[derive(Clone, Copy)]
 pub enum Answer {
     Line(u32),
     Refused(u8, u8, u32, u8),

@@ -1,3 +1,4 @@
+#![tactic(auto)]
 // Text added to a buffer from a place on: a byte, one byte many times, a part, the digits of a number. Each answers where what it
 // added ends.
 ghost use Rattle.std.specs.Prelude.{◌∷◌, [], ◌+◌, ◌≤◌, ◌<◌, length, replicate};

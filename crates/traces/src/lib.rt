@@ -1,3 +1,4 @@
+#![tactic(auto)]
 // The questions on a set: from a tape, record and channel to the receiver's line and component, and back; and all traces as rows. Each checks
 // the set itself, after the question's own range.
 ghost use Rattle.std.specs.Prelude.{◌≡◌, true, ◌≤◌, ◌<◌};
@@ -30,7 +31,7 @@ mod search;
 
 // What a question is answered: a receiver's line in R, its component and whether it is killed, a channel, no trace; or a refusal, with number,
 // file, line and column.
-#[derive(Drop)]
+#[derive(Clone, Copy)]
 pub enum Answer {
     Trace(u32, u8, bool),
     Channel(u32),
@@ -39,14 +40,14 @@ pub enum Answer {
 }
 
 // What the spread table is answered: the record's highest covered channel, or a refusal.
-#[derive(Drop)]
+#[derive(Clone, Copy)]
 pub enum Spread {
     Highest(u64),
     Refused(u8, u8, u32, u8),
 }
 
 // How the files are read, and which record of the tape is asked for.
-#[derive(Drop)]
+#[derive(Clone, Copy)]
 pub struct Question {
     pub how: Reading,
     pub record: u64,

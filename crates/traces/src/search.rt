@@ -14,7 +14,7 @@ use spread::wanted::Wanted;
 
 // What is sought among the relation lines of a tape and record: one that carries a channel, or one that reaches a component of the
 // receiver in line i of R, from 0.
-#[derive(Drop)]
+#[derive(Clone, Copy)]
 pub enum Sought {
     Channel(u64),
     Component(usize, u64),

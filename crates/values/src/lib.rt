@@ -1,3 +1,4 @@
+#![tactic(auto)]
 // One line of a file, read for a host that merges: 20 where it is not there, 3 to 6 of it, or its values; and these values as numbers in a row.
 ghost use Rattle.std.specs.Prelude.{◌≡◌, ◌-◌};
 ghost use Rattle.rules.specs.Plan.{run};
@@ -17,14 +18,14 @@ use records::{fits, point, relation};
 pub mod places;
 
 // The values of a point line; or a refusal, with number, file, line and column.
-#[derive(Drop)]
+#[derive(Clone, Copy)]
 pub enum PointRead {
     Read(Point),
     Refused(u8, u8, u32, u8),
 }
 
 // The same of a relation line.
-#[derive(Drop)]
+#[derive(Clone, Copy)]
 pub enum RelationRead {
     Read(Relation),
     Refused(u8, u8, u32, u8),

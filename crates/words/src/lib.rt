@@ -1,3 +1,4 @@
+#![tactic(auto)]
 // The program's line: what it says of a set or of a file that cannot be used, as bytes in the first places of a lent buffer. Where the
 // line has no room nothing is written; the answer is its length in either case. A line is made in an array of the call, then put over.
 ghost use Rattle.std.specs.Prelude.{◌≡◌, ◌≤◌, ◌∷◌, [], ◌++◌, length};

@@ -1,3 +1,4 @@
+#![tactic(auto)]
 // A point or a relation as the 82 bytes of a line of the disc form, at the start of a lent slice. The line is made in an array of the
 // call, field by field of the table that reading goes by, and put over last: a refusal writes nothing.
 ghost use Rattle.std.specs.Prelude.{◌≡◌, true, length, get_or};

@@ -9,7 +9,7 @@ use records::point::{Held, Point};
 use records::relation::Relation;
 
 // What a field holds: text, as two numbers of 8 bytes each, of which a tape and a code have the second alone; a number; nothing.
-#[derive(Drop)]
+#[derive(Clone, Copy)]
 pub enum Value {
     Text(u64, u64),
     Number(i64),
