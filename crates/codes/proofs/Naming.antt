@@ -7,22 +7,21 @@
 use Prim.Native.Nat.{ℕ, zero, suc, ◌+◌, ◌-◌, ◌≤◌, ◌<◌}
 use native.Mathlib.Numerals.{add-one}
 use native.Mathlib.Omega.{arith}
-use mathlib.Core.Path.{◌≡◌, refl, sym, ap, ap₂, subst, fun_ext, ◌∙◌}
-use mathlib.Core.Logic.{◌↔◌, ⊎_elim}
-use mathlib.Core.Bool.{Bool, true, false, not, ◌&&◌, ◌||◌, or-true, or-false, and-false}
+use mathlib.Core.Path.{◌≡◌, refl, sym, ap, subst, fun_ext, ◌∙◌}
+use mathlib.Core.Bool.{Bool, true, false, not, ◌&&◌, ◌||◌, or-true, or-false}
 use mathlib.Core.List.{List, [], ◌∷◌}
 use lib.Dec.{eqb, ltb, lit≤}
 use lib.ListN.{length, get_or, set, replicate, length-set, length-replicate, get_or-eq_default}
 use lib.Seq.{get_or-set_same, get_or-set_other}
 use borrow.Author.Tests.{eqb-true, eq-eqb, ne_eqb, ltb-true, lt-ltb, le-ltb}
-use Rattle.rules.specs.Places.{pick, every, some, least}
+use Rattle.rules.specs.Places.{pick, some, least}
 use Rattle.rules.specs.Plan.{fine, refused, №, Refusal, file_x, need, when, run}
 use Rattle.rules.specs.Layout.{Layout, sps93, at}
 use Rattle.rules.specs.Sheet.{Sheet}
 use Rattle.rules.specs.Lines.{is_data, heads}
 use Rattle.rules.specs.Points.{point_at, point}
 use Rattle.rules.specs.Relations.{relation_at}
-use Rattle.rules.specs.Codes.{tables_of, names, named, named_before, rule24, used_code, code_span, rule25, line_naming}
+use Rattle.rules.specs.Codes.{tables_of, names, named, named_before, rule24, used_code, line_naming}
 use Rattle.rules.proofs.Tests.{clash, agree, yes_no, and_is, not_is, every_is, some_is}
 use Rattle.rules.proofs.Steps.{need_met, need_broken, when_off, when_on, every_stop, least_stop}
 use Rattle.fields.proofs.Codes.{two_columns}

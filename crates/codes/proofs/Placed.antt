@@ -3,11 +3,11 @@
 --   place_one      = two codes in one place are one, of one kind
 --   names_placed   = a header line names a code exactly where it has its place
 --   placed         = a header line that has a place names the code that stands in it
-use Prim.Native.Nat.{ℕ, suc, ◌+◌, ◌-◌, ◌*◌, ◌/◌, ◌%◌, ◌≤◌, ◌<◌}
+use Prim.Native.Nat.{ℕ, ◌+◌, ◌-◌, ◌*◌, ◌/◌, ◌%◌, ◌≤◌, ◌<◌}
 use native.Mathlib.Omega.{arith}
 use mathlib.Core.Path.{◌≡◌, refl, sym, ap, ap₂, subst, ◌∙◌}
 use mathlib.Core.Logic.{◌↔◌, ◌⊎◌, inl, inr, ⊎_elim}
-use mathlib.Core.Bool.{Bool, true, false, not, ◌&&◌}
+use mathlib.Core.Bool.{Bool, true, false, not}
 use mathlib.Core.List.{List, [], ◌∷◌}
 use lib.Dec.{eqb, lit≤}
 use lib.ListN.{get_or}
@@ -29,6 +29,7 @@ receiver_letters : (b : ℕ) → OneOf "GHR" b → (71 ≤ b) × (b ≤ 82)
 receiver_letters b (inl e) = let z : b ≡ 71 = e in (omega arith, omega arith)
 receiver_letters b (inr (inl e)) = let z : b ≡ 72 = e in (omega arith, omega arith)
 receiver_letters b (inr (inr (inl e))) = let z : b ≡ 82 = e in (omega arith, omega arith)
+receiver_letters b (inr (inr (inr e))) = elim e [ ]
 
 source_letters : (b : ℕ) → OneOf "VEAWS" b → ((65 ≤ b) × (b ≤ 69)) ⊎ ((83 ≤ b) × (b ≤ 87))
 source_letters b (inl e) = let z : b ≡ 86 = e in inr (omega arith, omega arith)
@@ -36,6 +37,7 @@ source_letters b (inr (inl e)) = let z : b ≡ 69 = e in inl (omega arith, omega
 source_letters b (inr (inr (inl e))) = let z : b ≡ 65 = e in inl (omega arith, omega arith)
 source_letters b (inr (inr (inr (inl e)))) = let z : b ≡ 87 = e in inr (omega arith, omega arith)
 source_letters b (inr (inr (inr (inr (inl e))))) = let z : b ≡ 83 = e in inr (omega arith, omega arith)
+source_letters b (inr (inr (inr (inr (inr e))))) = elim e [ ]
 
 pub capital : (i b : ℕ) → Family i b → (65 ≤ b) × (b ≤ 90)
 capital i b w =

@@ -3,13 +3,12 @@ use Prim.Native.Nat.{ℕ, ◌+◌, ◌-◌, ◌*◌, ◌/◌, ◌%◌, ◌≤◌
 use native.Mathlib.Nat.{mul-le-mul_left}
 use native.Mathlib.Omega.{arith}
 use mathlib.Core.Path.{◌≡◌, refl, sym, ap, ap₂, ◌∙◌}
-use mathlib.Core.Bool.{Bool, true, false, ◌&&◌, ◌||◌, and-true, and-false}
+use mathlib.Core.Bool.{Bool, true, false, and-false}
 use mathlib.Core.List.{List, [], ◌∷◌}
 use lib.Dec.{eqb, lit≤}
 use lib.ListN.{get_or}
 use borrow.Author.Tests.{eq-eqb, ne_eqb}
-use Rattle.rules.specs.Places.{pick, some}
-use Rattle.rules.specs.Plan.{file_x}
+use Rattle.rules.specs.Places.{pick}
 use Rattle.rules.specs.Text.{col, cols, same, bytes}
 use Rattle.rules.specs.Layout.{sps93, at}
 use Rattle.rules.specs.Kinds.{digit1, family, of_family, is_code}
@@ -19,7 +18,7 @@ use Rattle.rules.proofs.Tests.{says, and_is}
 use Rattle.rules.proofs.Columns.{cols_end, cols_step}
 use Rattle.rules.proofs.Fields.{family_is}
 use Rattle.rules.proofs.Codes.{is_code_lem}
-use Rattle.codes.specs.Named.{place_of, place_for, numbered, kind_on, place_on}
+use Rattle.codes.specs.Named.{place_for, numbered, kind_on, place_on}
 use Rattle.codes.proofs.Placed.{capital, code_bytes}
 
 pub digit_range : (b : ℕ) → digit1 b ≡ true → (49 ≤ b) × (b ≤ 57)

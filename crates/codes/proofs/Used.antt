@@ -4,12 +4,11 @@
 --   used_none, used_instrument, used_point         = the place of the code that a line uses
 --   all_used, stops_24, stops_r, stops_s, last_x   = 24, then 25 of the three files, as far as the code comes
 use Prim.Native.Nat.{ℕ, ◌+◌, ◌≤◌, ◌<◌}
-use native.Mathlib.Omega.{arith}
 use mathlib.Core.Path.{◌≡◌, refl, sym, ap, ap₂, subst, fun_ext, ◌∙◌}
 use mathlib.Core.Bool.{Bool, true, false, not, ◌&&◌, and-false}
 use mathlib.Core.List.{List, [], ◌∷◌}
 use lib.Dec.{eqb, ltb, lit≤}
-use lib.ListN.{length, get_or, set, take, length-set, get_or-eq_default}
+use lib.ListN.{length, get_or, set, length-set, get_or-eq_default}
 use borrow.Author.Tests.{eq-eqb, ne_eqb, lt-ltb, le-ltb}
 use Rattle.rules.specs.Places.{pick}
 use Rattle.rules.specs.Plan.{refused, №, first_of, up_to, run}
@@ -18,7 +17,6 @@ use Rattle.rules.specs.Layout.{Layout, sps93, at}
 use Rattle.rules.specs.Sheet.{Sheet}
 use Rattle.rules.specs.Lines.{is_header, is_data, heads}
 use Rattle.rules.specs.Points.{point_at, point}
-use Rattle.rules.specs.Relations.{relation_at}
 use Rattle.rules.specs.Text.{cols}
 use Rattle.rules.specs.Codes.{used_code, code_span, rule24, rule25, codes_fit}
 use Rattle.rules.proofs.Medium.{ranked_column}

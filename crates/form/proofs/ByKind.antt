@@ -2,10 +2,9 @@
 --   answered_is    = a verdict as an answer
 --   unknown_kind   = what is answered of no kind
 --   known_kind     = what is answered of a kind: the form of that file
-use Prim.Native.Nat.{ℕ, ◌<◌}
+use Prim.Native.Nat.{ℕ}
 use native.Mathlib.Omega.{arith}
 use mathlib.Core.Path.{◌≡◌, refl, sym, ap, ◌∙◌}
-use mathlib.Core.Bool.{true}
 use borrow.Author.Tests.{lt-ltb, ltb-true}
 use Rattle.rules.specs.Plan.{№, Verdict as PaperVerdict, run}
 use Rattle.rules.specs.Sheet.{Sheet}

@@ -7,7 +7,7 @@ use Rattle.rules.specs.Text.{same}
 use Rattle.rules.specs.Tape.{tape}
 use Rattle.rules.specs.Disc.{disc}
 use Rattle.rules.specs.Calls.{on, none, choice}
-use Rattle.rules.specs.Plan.{Verdict, fine, refused, №, run, ◌before◌, file_r, file_s}
+use Rattle.rules.specs.Plan.{Verdict, fine, refused, №, run, ◌before◌}
 use Rattle.rules.specs.Sheet.{Sheet, most_lines, all_lines}
 use Rattle.rules.specs.Form.{stray_from, ending, rule1, rule2, rule29}
 use Rattle.rules.proofs.Tests.{more}

@@ -212,7 +212,7 @@ module _ (how : Reading) (f : List ℕ) (k : ℕ) (h : k < (sheet_of how f).coun
       take-take 80 (medium_of how).stride _ (lawful how).narrow
       ∙ sym
       (ranked_back (medium_of how).char_of (medium_of how).byte_of line
-      (own_all _ _ line (λ i l. let n = line_length in (lawful how).told (i + 1) _ (omega arith) (taken_at i (omega arith)))))
+      (own_all (medium_of how).char_of (medium_of how).byte_of line (λ i l. let n = line_length in (lawful how).told (i + 1) _ (omega arith) (taken_at i (omega arith)))))
 
   -- each of its characters has a byte
   char_at : (i : ℕ) → i < 80 → get_or ((sheet_of how f).row k) i 0 ≡ (medium_of how).char_of (get_or line i 0)

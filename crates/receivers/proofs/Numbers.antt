@@ -1,7 +1,7 @@
 -- The key of a relation line's receiver, as the code has it.
 --   key_is         = the key of one of its receivers
 --   first_row_is   = so the row of the first one is that of its key
-use Prim.Native.Nat.{ℕ, min}
+use Prim.Native.Nat.{ℕ}
 use mathlib.Core.Path.{◌≡◌, ap, ◌∙◌}
 use mathlib.Core.List.{List}
 use Rattle.rules.specs.Layout.{sps93}

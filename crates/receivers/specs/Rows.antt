@@ -4,7 +4,7 @@
 --   row_of r o y       = the row with the key y; the number of rows where there is none
 --   first_row r o x k  = the row of the lowest receiver of relation line k of X
 --   FirstAt r o x k e = R and X are known, in one medium, and that row is e
-use Rattle.std.specs.Prelude.{ℕ, min, ◌≡◌, Bool, false, not, List, length}
+use Rattle.std.specs.Prelude.{ℕ, ◌≡◌, Bool, false, not, List, length}
 use Rattle.rules.specs.Places.{least}
 use Rattle.rules.specs.Sheet.{Sheet}
 use Rattle.rules.specs.Relations.{reach_at}

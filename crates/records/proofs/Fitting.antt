@@ -4,7 +4,7 @@ use mathlib.Core.Path.{◌≡◌, refl, sym, ◌∙◌}
 use mathlib.Core.Bool.{Bool, true, false, not, ◌&&◌}
 use mathlib.Core.List.{List, [], ◌∷◌}
 use lib.ListN.{take, drop}
-use borrow.Author.Tests.{not-true, not-false}
+use borrow.Author.Tests.{not-true}
 use Rattle.rules.specs.Places.{pick}
 use Rattle.rules.specs.Plan.{Refusal, fine, ◌or_else◌, Plan, №, need, when, ◌before◌, run}
 use Rattle.rules.specs.Text.{blank}
@@ -19,8 +19,8 @@ use Rattle.records.specs.Fitting.{all_fit, kept_rows, free_rows}
 pub both : {a b : Bool} → a ≡ true → b ≡ true → (a && b) ≡ true
 both {a} {b} p q = (and_is a b).1 (p, q)
 
-pub asked : {t a b : Bool} → t ≡ a → not t ≡ false → b ≡ true → (a && b) ≡ true
-asked {t} q h r = both (sym q ∙ not-false t h) r
+pub asked : {t a b : Bool} → t ≡ a → t ≡ true → b ≡ true → (a && b) ≡ true
+asked {t} q h r = both (sym q ∙ h) r
 
 -- a field that may be blank
 module _ (k : Kind) (t : Bool) (bs : List ℕ) (q : t ≡ blank bs) where

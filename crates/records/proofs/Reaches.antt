@@ -151,9 +151,9 @@ module _ (p : PaperReach) (q : Reach) (e : q ≡ coded_reach p) where
 
   -- from a channel to its receiver and component, and back
   module _ (c : ℕ) where
-    pub leads_to_lem : receiver_on p ((c - q.from) / q.step) ≡ leads p c
+    pub leads_to : receiver_on p ((c - q.from) / q.step) ≡ leads p c
     unfolding leads
-    leads_to_lem = ap₂ (λ (f i : ℕ). receiver_on p ((c - f) / i)) from_is step_is
+    leads_to = ap₂ (λ (f i : ℕ). receiver_on p ((c - f) / i)) from_is step_is
 
     pub component_is : (c - q.from) % q.step + 1 ≡ component p c
     unfolding component

@@ -5,13 +5,12 @@
 --   no_row        = what stands beyond a table's end
 --   row_fits m l w = the field of row w of line l obeys its rule, or is free in the marker that m says l is
 --   coded_reach q, coded_relation v, coded_state s, coded_point v = the paper's values as the code holds them
-use Rattle.std.specs.Prelude.{ℕ, ◌≤◌, ℤ, Bool, true, false, ◌&&◌, ◌||◌, List}
+use Rattle.std.specs.Prelude.{ℕ, ℤ, Bool, true, false, ◌&&◌, ◌||◌, List}
 use Rattle.rules.specs.Layout.{sps93, at}
 use Rattle.rules.specs.Kinds.{Kind, starts_non_blank, may_be_blank, fits}
 use Rattle.rules.specs.Points.{Held as PaperHeld, absent, held, State as PaperState, live, killed, marker, Point as PaperPoint}
 use Rattle.rules.specs.Relations.{Reach as PaperReach, Relation as PaperRelation}
 use Rattle.fields.specs.Packed.{packed, name_of}
-use Rattle.fields.specs.Texts.{Wide}
 use Rattle.rules.specs.Rows.{Row as PaperRow, header_rows, point_rows, relation_rows}
 use Rattle.fields.specs.Paper.{kind}
 use Rattle.fields.specs.declared.Kind.{Kind as CodeKind}

@@ -3,7 +3,7 @@
 --   Broken w p   = the rule of refusal w is broken, at its place, and all that is looked for before it is met
 --   run_met      = a plan is fine exactly when it is met
 --   run_broken   = it refuses by w exactly when it is broken first by w
-use Prim.Native.Nat.{ℕ, zero, suc, ◌-◌, ◌<◌}
+use Prim.Native.Nat.{ℕ, zero, suc, ◌<◌}
 use native.Mathlib.Nat.{not-suc-le-zero, lt-suc_self}
 use native.Mathlib.Omega.{arith}
 use mathlib.Core.Path.{◌≡◌, refl, sym, ap, ◌∙◌}

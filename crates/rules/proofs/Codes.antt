@@ -16,11 +16,9 @@ use Rattle.rules.specs.Lines.{is_data, heads}
 use Rattle.rules.specs.Text.{same}
 use Rattle.rules.specs.Codes.{Tables, row, many, three_digits, is_instrument, tables_of, opens, names, named, named_before}
 use Rattle.rules.specs.Codes.{rule24, used_code, code_span, rule25}
-use Rattle.rules.specs.MeetsForm.{Data}
-use Rattle.rules.specs.MeetsHeaders.{InHeader}
 use Rattle.rules.specs.MeetsCodes.{CodeOf, Opens, FirstRecord, NamesCode, Rule24, Breach24, Named, Uses, Rule25, Breach25}
 use Rattle.rules.specs.Refuses.{look, line_by_line, by, used_order}
-use Rattle.rules.proofs.Tests.{says, and_is, not_is, eqb_is, pick_is, same_is, some_is}
+use Rattle.rules.proofs.Tests.{says, and_is, eqb_is, pick_is, same_is, some_is}
 use Rattle.rules.proofs.Contrary.{contrary, not_every, not_not}
 use Rattle.rules.proofs.Breach.{Met, Broken}
 use Rattle.rules.proofs.Fields.{family_is}

@@ -1,7 +1,7 @@
 -- What it is for a test to fail: the laws by which the contrary of a rule is read in words.
 --   fails   = those laws, for `simp`
 use Prim.Native.Nat.{ℕ, zero, suc, ◌≤◌, ◌<◌}
-use native.Mathlib.Nat.{not-suc-le-zero, lt-suc_self}
+use native.Mathlib.Nat.{lt-suc_self}
 use native.Mathlib.Omega.{arith}
 use mathlib.Core.Path.{◌≡◌, refl, sym, ap, ◌∙◌}
 use mathlib.Core.Logic.{◌↔◌, ◌⊎◌, inl, inr, ⊎_elim}
@@ -9,7 +9,7 @@ use mathlib.Core.Bool.{Bool, true, false, not, ◌&&◌, ◌||◌}
 use lib.Dec.{leb, ltb}
 use borrow.Author.Tests.{ltb-true, lt-ltb, leb-true, le-leb}
 use Rattle.rules.specs.Places.{pick, every, some, if_before, is_before, of_last}
-use Rattle.rules.proofs.Tests.{clash, more, yes_no, and_is, not_is, imp_is, pick_is, every_is, some_is, if_before_is, is_before_is, of_last_is}
+use Rattle.rules.proofs.Tests.{clash, more, yes_no, and_is, pick_is, every_is, some_is, if_before_is, is_before_is, of_last_is}
 
 pub contrary {ℓ m} : {A : Type ℓ} {B : Type m} → A ↔ B → (A → ⊥) ↔ (B → ⊥)
 contrary e = (λ f b. f (e.1 b), λ g a. g (e.0 a))

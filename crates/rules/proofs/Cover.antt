@@ -2,7 +2,7 @@
 --   counted_on, counted_back = the receiver that is d on from the first, and how far on a receiver is
 --   meet_overlap    = two lines cover one receiver where each begins before the other ends
 --   Sound q         = what 5 and 6 leave of a relation line
-use Prim.Native.Nat.{ℕ, suc, ◌+◌, ◌-◌, ◌*◌, ◌/◌, ◌%◌, ◌≤◌, ◌<◌, min, max}
+use Prim.Native.Nat.{ℕ, suc, ◌+◌, ◌-◌, ◌*◌, ◌/◌, ◌%◌, ◌≤◌, ◌<◌}
 use native.Mathlib.Nat.{div-lt_iff_lt-mul, div-add-mod', mod-lt, mul-add-div_right, mul-add-mod_self_right, div-eq_of_lt}
 use native.Mathlib.Nat.{mod-eq_of_lt, mul-le-mul_right, suc-mul, add-sub_cancel, add-zero}
 use native.Mathlib.Omega.{arith}

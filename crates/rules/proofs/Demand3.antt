@@ -5,7 +5,7 @@
 --   there_and_back              = asked from the receiver and component, the answer is that channel, and the other way round
 --   lookup_none, back_none      = what is not covered is answered "no trace"
 --   lookup_refuses, back_refuses = 20, then the set's own
-use Prim.Native.Nat.{ℕ, ◌+◌, ◌-◌, ◌≤◌, ◌<◌}
+use Prim.Native.Nat.{ℕ, ◌+◌, ◌-◌, ◌<◌}
 use native.Mathlib.Omega.{arith}
 use mathlib.Core.Path.{◌≡◌, refl, sym, ap, ◌∙◌, subst}
 use mathlib.Core.Logic.Iff
@@ -33,12 +33,12 @@ use Rattle.rules.specs.MeetsDisc.{Printable}
 use Rattle.rules.specs.MeetsCover.{Carries}
 use Rattle.rules.specs.MeetsSet.{Receiver, Killed}
 use Rattle.rules.specs.Meets.{Meets}
-use Rattle.rules.specs.Refuses.{Order, First, order}
-use Rattle.rules.specs.MeetsQuestions.{Asked, Unasked, AskedChannel, UnaskedChannel, AskedLine, UnaskedLine, Uncovered, Unreached, asking}
+use Rattle.rules.specs.Refuses.{Order, First}
+use Rattle.rules.specs.MeetsQuestions.{Asked, Unasked, AskedChannel, AskedLine, Uncovered, Unreached, asking}
 use Rattle.rules.specs.MeetsQuestions.{lookup_order, way_back_order}
-use Rattle.rules.proofs.Tests.{says, eqb_is, leb_is}
+use Rattle.rules.proofs.Tests.{says, eqb_is}
 use Rattle.rules.proofs.Contrary.{contrary, not_and, not_not, not_every, not_leb}
-use Rattle.rules.proofs.Breach.{Met, Broken, run_met, run_broken, no_fine}
+use Rattle.rules.proofs.Breach.{run_met, run_broken, no_fine}
 use Rattle.rules.proofs.Fields.{kind_is}
 use Rattle.rules.proofs.Form.{need_breaks}
 use Rattle.rules.proofs.Cover.{reached}

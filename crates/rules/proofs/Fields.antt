@@ -10,10 +10,9 @@ use mathlib.Core.Bool.{Bool, true, false, ◌&&◌, ◌||◌}
 use mathlib.Core.List.{List, [], ◌∷◌}
 use lib.Dec.{eqb}
 use lib.IntN.{pos, neg_ℤ}
-use lib.ListN.{length, take, drop, replicate}
+use lib.ListN.{length, replicate}
 use borrow.Author.Tests.{eqb-true, eq-eqb}
 use Rattle.rules.specs.Places.{pick}
-use Rattle.rules.specs.Plan.{file_r}
 use Rattle.rules.specs.Text.{col, same, blank, bytes, one_of}
 use Rattle.rules.specs.Numbers.{Number, malformed, plus, minus, digits, whole, signed, then, decimal, tenths, size, value}
 use Rattle.rules.specs.Kinds.{Kind, starts_non_blank, digits_only, coordinate, index, water_depth, time, whole_number, signed_number}

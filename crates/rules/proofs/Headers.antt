@@ -1,27 +1,26 @@
 -- The tests of refusals 7, 8 and 9 say what `MeetsHeaders` has in words, and fail where its breaches are.
-use Prim.Native.Nat.{ℕ, zero, suc, ◌+◌, ◌≤◌, ◌<◌, min}
-use native.Mathlib.Nat.{not-suc-le-zero}
+use Prim.Native.Nat.{ℕ, suc, ◌+◌, ◌≤◌, ◌<◌, min}
 use native.Mathlib.Omega.{arith}
 use mathlib.Core.Path.{◌≡◌, refl, sym, ap, ◌∙◌, subst}
 use mathlib.Core.Logic.Iff
 use mathlib.Core.Logic.{◌↔◌, ◌⊎◌, inl, inr, ⊎_elim}
-use mathlib.Core.Bool.{Bool, true, false, not, ◌&&◌}
+use mathlib.Core.Bool.{Bool, true, not, ◌&&◌}
 use mathlib.Core.List.{List, [], ◌∷◌, ◌++◌}
 use lib.Dec.{eqb, ltb}
 use lib.ListN.{length}
 use borrow.Author.Tests.{eqb-true, eq-eqb, ltb-true, lt-ltb}
 use Rattle.rules.specs.Places.{some}
-use Rattle.rules.specs.Plan.{Refusal, №, file_r, up_to}
+use Rattle.rules.specs.Plan.{Refusal, №, file_r}
 use Rattle.rules.specs.Text.{same, bytes}
-use Rattle.rules.specs.Layout.{Layout, at}
+use Rattle.rules.specs.Layout.{Layout}
 use Rattle.rules.specs.Sheet.{Sheet}
 use Rattle.rules.specs.Lines.{is_data, heads}
-use Rattle.rules.specs.Headers.{two_digits, is_type, projection, rule7, rule8, rule9, same_columns}
-use Rattle.rules.specs.MeetsForm.{Header, Data}
+use Rattle.rules.specs.Headers.{is_type, projection, rule7, rule8, rule9, same_columns}
+use Rattle.rules.specs.MeetsForm.{Data}
 use Rattle.rules.specs.MeetsHeaders.{InHeader, Heads, OfType, Projected, Names, Rule7, Breach7, Rule8, Breach8, Parts, Differ, Rule9, Breach9}
 use Rattle.rules.specs.Refuses.{by, in_column}
-use Rattle.rules.proofs.Tests.{says, clash, and_is, same_is, yes_no}
-use Rattle.rules.proofs.Contrary.{not_and, not_not, not_every, not_some}
+use Rattle.rules.proofs.Tests.{says, clash, same_is, yes_no}
+use Rattle.rules.proofs.Contrary.{not_and, not_not, not_every}
 use Rattle.rules.proofs.Least.{least_is, least_first, least_none, least_below}
 use Rattle.rules.proofs.Breach.{Met, Broken}
 use Rattle.rules.proofs.Fields.{blank_is}

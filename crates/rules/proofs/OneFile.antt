@@ -6,16 +6,16 @@
 use Prim.Native.Nat.{ℕ}
 use native.Mathlib.Omega.{arith}
 use mathlib.Core.Path.{◌≡◌, refl, sym, ap, subst, ◌∙◌}
-use mathlib.Core.Logic.{◌↔◌, ◌⊎◌, inl, inr, ⊎_elim}
+use mathlib.Core.Logic.{◌↔◌, inl, inr, ⊎_elim}
 use mathlib.Core.Bool.{Bool, true, false}
 use lib.Dec.{eqb, ltb}
 use borrow.Author.Tests.{eqb-true, eq-eqb, ltb-true}
 use Rattle.rules.specs.Places.{pick}
-use Rattle.rules.specs.Plan.{Refusal, №, Verdict, fine, refused, file_r, file_s, file_x, ◌before◌, run}
+use Rattle.rules.specs.Plan.{Refusal, №, Verdict, fine, refused, file_r, file_s, file_x, run}
 use Rattle.rules.specs.Sheet.{Sheet}
 use Rattle.rules.specs.Lines.{kind_of}
 use Rattle.rules.specs.Form.{form}
-use Rattle.rules.specs.Check.{Answer, accepted, refusal, formed, rules, verdict, answer, cross}
+use Rattle.rules.specs.Check.{accepted, refusal, formed, rules, verdict, answer, cross}
 use Rattle.rules.specs.Questions.{rule20}
 use Rattle.rules.specs.OneFile.{kind_asked, one_file, file_form}
 use Rattle.rules.specs.MeetsForm.{Formed}

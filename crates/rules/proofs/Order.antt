@@ -1,34 +1,32 @@
 -- The tests of refusals 10 to 19 say what `MeetsSet` has in words, and fail where its breaches are.
-use Prim.Native.Nat.{ℕ, suc, ◌+◌, ◌≤◌, ◌<◌}
+use Prim.Native.Nat.{ℕ, suc, ◌+◌, ◌<◌}
 use native.Mathlib.Omega.{arith}
-use mathlib.Core.Path.{◌≡◌, refl, sym, ◌∙◌}
+use mathlib.Core.Path.{◌≡◌, refl}
 use mathlib.Core.Logic.Iff
-use mathlib.Core.Logic.{◌↔◌, ◌⊎◌, inl, inr, ⊎_elim}
-use mathlib.Core.Bool.{Bool, true, not, ◌&&◌, ◌||◌}
+use mathlib.Core.Logic.{◌↔◌, inl, inr, ⊎_elim}
+use mathlib.Core.Bool.{true, not, ◌&&◌, ◌||◌}
 use mathlib.Core.List.{List}
 use lib.Dec.{eqb, ltb}
 use Rattle.rules.specs.Places.{every, some, if_before, is_before}
-use Rattle.rules.specs.Plan.{Refusal, №, file_r, file_s, file_x, need, when, up_to, ◌before◌}
+use Rattle.rules.specs.Plan.{Refusal, №, file_r, file_s, up_to, ◌before◌}
 use Rattle.rules.specs.Names.{Name}
 use Rattle.rules.specs.Layout.{letter_column}
 use Rattle.rules.specs.Sheet.{Sheet}
-use Rattle.rules.specs.Lines.{is_data}
-use Rattle.rules.specs.Points.{Point as PointValues, State, live, killed, marker, is_dead, point_at, is_at, same_point, is_killed}
-use Rattle.rules.specs.Relations.{Reach, Relation, reach_at, relation_at}
+use Rattle.rules.specs.Points.{Point as PointValues, State, live, killed, marker, is_dead, is_at, same_point, is_killed}
+use Rattle.rules.specs.Relations.{Reach, Relation, relation_at}
 use Rattle.rules.specs.Reaches.{reaches_of, of_record, mates, together, rises, once}
-use Rattle.rules.specs.Order.{earlier, is_point_at, is_live, is_shot_of, line_of_point, shot_line, names, same_shot, receivers_there}
-use Rattle.rules.specs.Order.{rule10, rule11, rule12, rule13, rule14, rule15, rule16, rule17, rule18, rule19}
-use Rattle.rules.specs.MeetsForm.{Data, Point}
+use Rattle.rules.specs.Order.{earlier, is_point_at, is_live, is_shot_of, names, same_shot, receivers_there}
+use Rattle.rules.specs.Order.{rule10, rule11, rule12, rule13, rule15, rule16}
+use Rattle.rules.specs.MeetsForm.{Point}
 use Rattle.rules.specs.MeetsCover.{Covers}
-use Rattle.rules.specs.MeetsSet.{Earlier, At, PointAt, Killed, Shot, Receiver, OfRecord, Mates, SameShot, Rule10, Rule11, Rule12, Rule13, Rule14, Rule15}
-use Rattle.rules.specs.MeetsSet.{Rule16, Rule17, Rule18, Rule19, Breach10, Breach11, Breach12, Breach13, Breach14, Breach15, Breach16, Breach17}
-use Rattle.rules.specs.MeetsSet.{Breach18, Breach19}
+use Rattle.rules.specs.MeetsSet.{Earlier, At, PointAt, Killed, Shot, Receiver, OfRecord, Mates, SameShot, Rule10, Rule11, Rule12, Rule13, Rule15}
+use Rattle.rules.specs.MeetsSet.{Rule16, Rule17, Rule19, Breach10, Breach11, Breach12, Breach13, Breach15, Breach16, Breach17}
+use Rattle.rules.specs.MeetsSet.{Breach19}
 use Rattle.rules.specs.Refuses.{by}
-use Rattle.rules.proofs.Tests.{says, clash, and_is, or_is, not_is, imp_is, eqb_is, ltb_is, yes_no, some_is, every_is, if_before_is, is_before_is}
-use Rattle.rules.proofs.Contrary.{fails, contrary, not_and, not_every, not_imp, not_if_before}
-use Rattle.rules.proofs.Least.{least_first, least_there}
+use Rattle.rules.proofs.Tests.{says, clash, and_is, or_is, eqb_is, ltb_is}
+use Rattle.rules.proofs.Contrary.{fails, not_and}
 use Rattle.rules.proofs.Breach.{Met, Broken}
-use Rattle.rules.proofs.Form.{data_is, point_is, need_breaks, when_breaks}
+use Rattle.rules.proofs.Form.{data_is, point_is, when_breaks}
 use Rattle.rules.proofs.Above.{above_is}
 use Rattle.rules.proofs.Cover.{every_receiver, not_every_receiver, meet_is}
 

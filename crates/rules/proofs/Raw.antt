@@ -10,7 +10,6 @@ use mathlib.Core.List.{List, [], ◌∷◌}
 use lib.ListN.{length, get_or}
 use Rattle.rules.specs.Plan.{Refusal, №}
 use Rattle.rules.specs.Text.{col}
-use Rattle.rules.specs.Layout.{at}
 use Rattle.rules.specs.Sheet.{Sheet, all_lines}
 use Rattle.rules.specs.Form.{ending, rule29, stray_from, stray, rule3}
 use Rattle.rules.specs.MeetsForm.{Taken, Rule3, Breach3}

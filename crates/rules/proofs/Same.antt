@@ -3,12 +3,12 @@
 use Prim.Native.Nat.{ℕ, zero, suc, ◌≤◌, ◌<◌}
 use native.Mathlib.Nat.{not-suc-le-zero, lt-suc_self}
 use native.Mathlib.Omega.{arith}
-use mathlib.Core.Logic.{◌↔◌, ◌⊎◌, inl, inr, ⊎_elim}
+use mathlib.Core.Logic.{◌↔◌, inl, inr, ⊎_elim}
 use mathlib.Core.Bool.{Bool}
 use lib.Dec.{ltb}
 use borrow.Author.Tests.{ltb-true, lt-ltb}
 use Rattle.rules.specs.Plan.{Refusal, Plan, ◌before◌, up_to, when}
-use Rattle.rules.specs.Refuses.{Order, look, ◌then◌, line_by_line, Kept, First, by}
+use Rattle.rules.specs.Refuses.{Order, look, ◌then◌, line_by_line, Kept, First}
 use Rattle.rules.proofs.Tests.{more, yes_no}
 use Rattle.rules.proofs.Breach.{Met, Broken}
 

@@ -6,14 +6,14 @@ use Prim.Native.Nat.{ℕ, suc, ◌+◌, ◌-◌, ◌≤◌, ◌<◌}
 use native.Mathlib.Omega.{arith}
 use mathlib.Core.Path.{◌≡◌, refl, sym, ap, subst, ◌∙◌}
 use mathlib.Core.Logic.Iff
-use mathlib.Core.Logic.{◌↔◌, ◌⊎◌, inl, inr, ⊎_elim}
-use mathlib.Core.Bool.{Bool, true, false, ◌&&◌}
+use mathlib.Core.Logic.{◌↔◌, inl, inr, ⊎_elim}
+use mathlib.Core.Bool.{Bool, true, ◌&&◌}
 use mathlib.Core.List.{List}
 use lib.Dec.{eqb, ltb, lit≤}
 use lib.ListN.{length}
-use borrow.Author.Tests.{eqb-true, eq-eqb, ltb-true, lt-ltb, le-ltb}
+use borrow.Author.Tests.{lt-ltb, le-ltb}
 use Rattle.rules.specs.Places.{pick, least}
-use Rattle.rules.specs.Plan.{Refusal, file_r, file_s, file_x, ◌before◌, run}
+use Rattle.rules.specs.Plan.{Refusal, ◌before◌, run}
 use Rattle.rules.specs.Sheet.{Sheet, all_lines, most_lines}
 use Rattle.rules.specs.Lines.{kind_of, heads}
 use Rattle.rules.specs.Codes.{tables_of, names, line_naming}
@@ -24,7 +24,7 @@ use Rattle.rules.specs.MeetsCodes.{CodeOf, NamesCode}
 use Rattle.rules.specs.Meets.{Meets}
 use Rattle.rules.specs.Refuses.{First}
 use Rattle.rules.specs.MeetsQuestions.{KindLetter, AskedCode, NamedIn, table_order}
-use Rattle.rules.proofs.Tests.{says, yes_no, and_is}
+use Rattle.rules.proofs.Tests.{says, and_is}
 use Rattle.rules.proofs.Contrary.{contrary}
 use Rattle.rules.proofs.Least.{least_is, least_first, least_none}
 use Rattle.rules.proofs.Headers.{in_header, heads_few}

@@ -9,7 +9,7 @@
 --   rows_go       = what is read from fields that obey their rules can be written
 use Prim.Native.Nat.{ℕ, ◌+◌, ◌≤◌, ◌<◌}
 use native.Mathlib.Omega.{arith}
-use mathlib.Core.Path.{◌≡◌, refl}
+use mathlib.Core.Path.{◌≡◌, refl, sym, subst}
 use mathlib.Core.Bool.{Bool, true, not, ◌&&◌}
 use mathlib.Core.List.{List, [], ◌∷◌, ◌++◌, append_assoc}
 use lib.ListN.{length, length-append}
@@ -75,9 +75,9 @@ joined_at c e (w ∷ ws) (v ∷ vs) xs zs t g h =
     let o = t.1 in
     let n = length-append xs s in
     let more = joined_at (w.columns.last + 1) e ws vs (xs ++ s) zs t.2 b.1 (omega arith) in
-    rw (append_assoc s (joined ws vs) zs) (
-      cols_part xs s (joined ws vs ++ zs) w.columns.first w.columns.last (omega arith) l,
-      rw (append_assoc xs s (joined ws vs ++ zs)) at more,
+    let whole : joined (w ∷ ws) (v ∷ vs) ++ zs ≡ s ++ (joined ws vs ++ zs) = append_assoc s (joined ws vs) zs in (
+      rw whole (cols_part xs s (joined ws vs ++ zs) w.columns.first w.columns.last (omega arith) l),
+      subst (λ l. Spells (xs ++ l) ws vs) (sym whole) (rw (append_assoc xs s (joined ws vs ++ zs)) at more),
     )
 
 module _ (l : List ℕ) where

@@ -16,7 +16,7 @@ use Rattle.rules.specs.Lines.{is_data}
 use Rattle.rules.specs.Relations.{reach_at}
 use Rattle.rules.specs.Cover.{traces, leads, component}
 use Rattle.rules.specs.Order.{receiver_line}
-use Rattle.rules.specs.Check.{trace, channel, all_traces, leads_to_killed}
+use Rattle.rules.specs.Check.{trace, all_traces, leads_to_killed}
 use Rattle.rules.specs.Lookup.{lookup}
 use Rattle.rules.specs.TraceRows.{traces_at, traces_above, line_of_trace, channel_of_trace, trace_row}
 use Rattle.rules.specs.MeetsForm.{Data}

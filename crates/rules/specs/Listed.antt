@@ -4,7 +4,7 @@
 --   begins ws         = the first columns of a table's fields
 --   published         = the rows 1 to 21, 24, 25 and 29 of files and questions, then 22 and 23 of a line that is written
 --   Listed w          = w is from the list
-use Rattle.std.specs.Prelude.{ℕ, ◌+◌, ◌≡◌, Bool, true, false, ◌&&◌, ◌||◌, List, [], ◌∷◌, ◌++◌, eqb, leb}
+use Rattle.std.specs.Prelude.{ℕ, ◌≡◌, Bool, true, false, ◌&&◌, ◌||◌, List, [], ◌∷◌, ◌++◌, eqb, leb}
 use Rattle.rules.specs.Plan.{Refusal, №, file_r, file_s, file_x}
 use Rattle.rules.specs.Layout.{Span, ◌to◌, letter_column, sps93}
 use Rattle.rules.specs.Rows.{Row, header_rows, point_rows, relation_rows}

@@ -7,7 +7,7 @@ use mathlib.Core.List.{List}
 use lib.Dec.{leb, ltb}
 use lib.ListN.{length}
 use borrow.Author.Tests.{leb-true, le-leb, ltb-true, lt-ltb}
-use Rattle.rules.specs.Sheet.{Sheet, most_lines}
+use Rattle.rules.specs.Sheet.{Sheet}
 use Rattle.rules.specs.Relations.{Reach, reach_at}
 use Rattle.rules.specs.Cover.{lowest, highest, receivers, carries, leads, component}
 use Rattle.rules.specs.Order.{receiver_line}

@@ -21,8 +21,8 @@ use Rattle.rules.proofs.Tests.{clash, agree, and_is}
 use Rattle.spread.specs.Taken.{taken, between}
 use Rattle.spread.proofs.Places.{Places}
 
-pub is_between_lem : (a e c : ℕ) → a ≤ c → c < e → between a e c ≡ true
-is_between_lem a e c h g = (and_is (leb a c) (ltb c e)).1 (le-leb a c h, lt-ltb c e g)
+pub is_between : (a e c : ℕ) → a ≤ c → c < e → between a e c ≡ true
+is_between a e c h g = (and_is (leb a c) (ltb c e)).1 (le-leb a c h, lt-ltb c e g)
 
 pub not_before : (a e c : ℕ) → e ≤ c → between a e c ≡ false
 not_before a e c h = rw (le-ltb c e h) (and-false (leb a c))
@@ -136,7 +136,7 @@ module _ (put : Put) where
         (λ y. let z = ltb-true (j + 1) c y in lt-ltb (j + 1) e (omega arith))
         (λ y. lt-ltb (j + 1) c (omega arith))))
         (λ j g y. refl))
-        ∙ sym (step_on (between a e) v i d (is_between_lem a e (i + 1) (omega arith) (omega arith)))
+        ∙ sym (step_on (between a e) v i d (is_between a e (i + 1) (omega arith) (omega arith)))
         ∙ sym (taken_short (between a e) v (suc i) n d h (λ j g _. not_before a e (j + 1) (omega arith)))
 
     pub none_between : (v : ℕ → ℕ) (a n : ℕ) (d : List ℕ) → d ≡ taken put (between a a) v n d

@@ -17,7 +17,7 @@ use Rattle.rules.specs.Layout.{sps93}
 use Rattle.rules.specs.Names.{Name, text as named}
 use Rattle.rules.specs.Lines.{letter, kind_of}
 use Rattle.rules.specs.Points.{Held, absent, held, State, live, killed, marker, state_of, Point, point}
-use Rattle.rules.specs.Relations.{Relation, reach, relation}
+use Rattle.rules.specs.Relations.{Relation, relation}
 use Rattle.rules.specs.Rows.{point_rows, relation_rows}
 use Rattle.rules.specs.Values.{Value, text, number, nothing, name_value, held_value, point_values, relation_values}
 use Rattle.rules.specs.Writer.{writable, same_state, counted}

@@ -20,7 +20,7 @@ use Rattle.rules.specs.Lines.{is_data, is_point}
 use Rattle.rules.specs.Relations.{reach_at}
 use Rattle.rules.specs.Cover.{traces}
 use Rattle.rules.specs.Check.{Answer, accepted, refusal, trace, channel, highest, header_line, no_trace, formed}
-use Rattle.rules.specs.Check.{relations, all_traces, dead_of, dead_traces, cross}
+use Rattle.rules.specs.Check.{all_traces, dead_of, dead_traces, cross}
 use Rattle.rules.specs.MeetsForm.{Data, Point}
 use Rattle.rules.proofs.Form.{data_is, point_is}
 use Rattle.rules.proofs.Which.{how_many, how_much}

@@ -5,13 +5,13 @@
 use Prim.Native.Nat.{ℕ, suc, ◌≤◌}
 use native.Mathlib.Omega.{arith}
 use mathlib.Core.Path.{◌≡◌, refl, sym, ap, ◌∙◌}
-use mathlib.Core.Bool.{Bool, true, false, ◌&&◌}
+use mathlib.Core.Bool.{Bool, true, false}
 use mathlib.Core.List.{List, [], ◌∷◌, ◌++◌}
 use lib.Dec.{eqb, ltb}
 use lib.ListN.{length, get_or}
 use borrow.Author.Tests.{eqb-true, ne_eqb, lt-ltb, ltb-true}
 use Rattle.rules.specs.Places.{pick}
-use Rattle.rules.specs.Plan.{Refusal, refused, fine, №, file_r, file_s, file_x}
+use Rattle.rules.specs.Plan.{Refusal, refused, fine, №}
 use Rattle.rules.specs.Sheet.{Sheet, most_lines}
 use Rattle.rules.specs.Codes.{tables_of, line_naming}
 use Rattle.rules.specs.Check.{refusal, header_line, verdict}

@@ -1,6 +1,5 @@
 -- What an answer says, where it is that of the definitions.
-use Prim.Native.Nat.{ℕ, zero, ◌+◌, ◌-◌, ◌*◌, ◌/◌, ◌≤◌, ◌<◌}
-use native.Mathlib.Nat.{not-suc-le-zero}
+use Prim.Native.Nat.{ℕ, ◌+◌, ◌*◌, ◌/◌, ◌≤◌, ◌<◌}
 use native.Mathlib.Omega.{arith}
 use mathlib.Core.Path.{◌≡◌, refl, sym, ap, subst, ◌∙◌}
 use mathlib.Core.Logic.Iff
@@ -12,13 +11,13 @@ use Rattle.rules.specs.Plan.{Refusal, №, Verdict, fine, refused}
 use Rattle.rules.specs.Sheet.{Sheet}
 use Rattle.rules.specs.Points.{point_at, is_killed}
 use Rattle.rules.specs.Relations.{reach_at}
-use Rattle.rules.specs.Check.{Answer as PaperAnswer, refusal, trace, channel, highest, no_trace, answer}
+use Rattle.rules.specs.Check.{Answer as PaperAnswer, refusal, highest, answer}
 use Rattle.rules.specs.Lookup.{lookup, way_back}
 use Rattle.rules.specs.Spread.{line_of, component_of, highest_of, turns, place, byte_place, spread, spread_verdict, Put, slice}
 use Rattle.rules.specs.Hosts.{numbers_of}
 use Rattle.rules.specs.MeetsCover.{Carries}
 use Rattle.rules.specs.Meets.{Meets}
-use Rattle.rules.specs.MeetsQuestions.{Asked, Of, Absent, Highest as HighestOf}
+use Rattle.rules.specs.MeetsQuestions.{Asked, Of, Highest as HighestOf}
 use Rattle.rules.proofs.Demand3.{Askable, answered, highest_answered, lookup_leads, lookup_once}
 use Rattle.rules.proofs.Order.{killed_is}
 use Rattle.rules.proofs.Demand3.{lookup_marks, there_and_back, lookup_none, back_none, lookup_refuses, back_refuses}

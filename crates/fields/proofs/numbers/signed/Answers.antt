@@ -1,0 +1,38 @@
+-- What `fields::numbers::signed` leaves to show.
+use Rattle.fields.proofs.Justified.{ink_low, minus_none, minus_other, minus_some, signed_after}
+use Rattle.rules.specs.Numbers.{negative}
+use mathlib.Core.Path.{◌∙◌, ap}
+use native.Mathlib.Omega.{arith}
+use Rattle.fields.proofs.numbers.signed.Goals as goal
+
+pub returns-then-b-c : goal.returns-then-b-c
+returns-then-b-c c = record {
+  value = signed_after _ _ _ _ c.ink-c.ensures.value _ c.requires.0
+      (minus_none _ _ _ (let h = ink_low _ _ _ _ c.ink-c.ensures.value in omega arith) c.if-b-c.true);
+}
+
+pub overflow_sub-c : goal.overflow_sub-c
+overflow_sub-c c = let h = ink_low _ _ _ _ c.ink-c.ensures.value in omega arith
+
+pub digits-requires : goal.digits-requires
+digits-requires c = let h = ink_low _ _ _ _ c.ink-c.ensures.value in
+    (omega arith, (omega arith, omega arith))
+
+pub returns-then-l-c-eq45 : goal.returns-then-l-c-eq45
+returns-then-l-c-eq45 c = record {
+  value = signed_after _ _ _ _ c.ink-c.ensures.value _ c.requires.0
+      (c.negative.ensures.value ∙ ap negative c.digits.ensures.value
+      ∙ minus_some _ _ _ (let h = ink_low _ _ _ _ c.ink-c.ensures.value in omega arith) c.if-b-c.false
+      c.if-l-c-eq45.true);
+}
+
+pub digits-requires-2 : goal.digits-requires-2
+digits-requires-2 c = let h = ink_low _ _ _ _ c.ink-c.ensures.value in
+    (omega arith, (omega arith, omega arith))
+
+pub returns : goal.returns
+returns c = record {
+  value = signed_after _ _ _ _ c.ink-c.ensures.value _ c.requires.0
+      (c.digits-2.ensures.value
+      ∙ minus_other _ _ _ (let h = ink_low _ _ _ _ c.ink-c.ensures.value in omega arith) c.if-b-c.false c.if-l-c-eq45.false);
+}

@@ -1,0 +1,13 @@
+-- What `lines::closing` leaves to show.
+use Rattle.std.proofs.Common.{refl}
+use Rattle.rules.specs.Disc.{disc}
+use Rattle.rules.specs.Tape.{tape}
+use Rattle.lines.proofs.closing.Goals as goal
+
+pub returns-in-Disc : goal.returns-in-Disc
+unfolding disc
+returns-in-Disc c = record { value = rw c.in-Disc.is (refl {a = 0}) }
+
+pub returns-in-Tape : goal.returns-in-Tape
+unfolding tape
+returns-in-Tape c = record { value = rw c.in-Tape.is (refl {a = 1}) }

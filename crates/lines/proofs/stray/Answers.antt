@@ -1,0 +1,9 @@
+-- What `lines::stray` leaves to show.
+use Rattle.std.proofs.Common.{sym}
+use Rattle.lines.proofs.stray.Goals as goal
+
+pub returns-then-is_clean : goal.returns-then-is_clean
+returns-then-is_clean c = record { value = sym (c.is_clean.ensures.value c.if-is_clean.true) }
+
+pub returns : goal.returns
+returns c = record { value = c.first_stray.ensures.value }

@@ -1,0 +1,14 @@
+-- What `sets::counts::relations` leaves to show.
+use mathlib.Core.Path.{◌∙◌}
+use Rattle.rules.specs.Check.{relations}
+use Rattle.lines.specs.Reading.{sheet_of}
+use Rattle.keys.proofs.Lines.{takes_record}
+use Rattle.rules.proofs.Dead.{count_alike}
+use Rattle.sets.proofs.counts.relations.Goals as goal
+
+pub returns : goal.returns
+unfolding relations
+returns c = record {
+  value = let a = c.args in
+      c.keyed.ensures.value ∙ count_alike _ _ _ (takes_record (sheet_of a.how a.x.now));
+}

@@ -1,0 +1,85 @@
+-- What `spread::bytes::put_all` leaves to show.
+use Prim.Native.Nat.{◌/◌, ℕ}
+use Rattle.lines.specs.Reading.{sheet_of}
+use Rattle.rules.specs.Cover.{carries}
+use Rattle.rules.specs.Relations.{reach_at}
+use Rattle.rules.specs.Spread.{byte_place, line_of}
+use Rattle.spread.proofs.Places.{bytes}
+use Rattle.spread.proofs.Taken.{taken_size}
+use Rattle.spread.proofs.Whole.{line_off, line_on, no_line_lem, relation_on, room_on}
+use Rattle.spread.specs.Taken.{here_up_to, line_at, line_in, taken}
+use lib.ListN.{length}
+use mathlib.Core.Path.{◌∙◌, ◌≡◌, ap, refl}
+use native.Mathlib.Omega.{arith}
+use Rattle.spread.proofs.bytes.put_all.Goals as goal
+
+pub coded-w-requires : goal.coded-w-requires
+coded-w-requires c = c.requires.1.0
+
+pub loop-k-init : goal.loop-k-init
+loop-k-init c = (omega arith, no_line_lem byte_place _ _ _ _ _ _)
+
+pub is_of-requires : goal.is_of-requires
+is_of-requires c = let n = c.line_count-count.ensures.value in omega arith
+
+pub put-requires : goal.put-requires
+put-requires c = let a = c.args in
+    let X = sheet_of a.how a.x.now in
+    let p = c.requires in
+    let at = c.loop-k in
+    let n = c.line_count-count.ensures.value in
+    let y = c.loop-k-test.true in
+    let l = ap length at.invariant.1 ∙ taken_size byte_place bytes _ _ _ _ in
+    let g = p.1.1 in
+    let z = room_on X a.tape.now a.«record» p.0.0.relations p.1.0 _ c.coded-w.ensures.value at.k (omega arith) _
+    c.is_of.ensures.value c.if-is_of.true (length a.lines.now / 2) (omega arith) in (
+      p.0,
+      (
+        (
+          omega arith,
+          relation_on X a.tape.now a.«record» p.0.0.relations p.1.0 _ c.coded-w.ensures.value at.k
+              (omega arith) _ c.is_of.ensures.value c.if-is_of.true,
+        ),
+        omega arith,
+      ),
+    )
+
+pub loop-k-preserved-then-is_of : goal.loop-k-preserved-then-is_of
+unfolding line_of
+loop-k-preserved-then-is_of c = let a = c.args in
+    let R = sheet_of a.how a.r.now in
+    let X = sheet_of a.how a.x.now in
+    let p = c.requires in
+    let at = c.loop-k in
+    let n = c.line_count-count.ensures.value in
+    let y = c.loop-k-test.true in
+    let l = ap length at.invariant.1 ∙ taken_size byte_place bytes _ _ _ _ in (
+      omega arith,
+      line_on X a.tape.now a.«record» p.0.0.relations p.1.0 _ c.coded-w.ensures.value at.k
+          (omega arith) _ c.is_of.ensures.value c.if-is_of.true R p.0.0 byte_place bytes line_of
+          (line_in R X at.k) (line_at R X a.tape.now a.«record»)
+          (λ i. refl) (λ i. refl) _ _ _ _ at.invariant.1
+          (c.put.ensures.written ∙ ap (λ (i : ℕ). taken byte_place (carries (reach_at X at.k)) (line_in R X at.k) (i / 2) at.lines) l),
+    )
+
+pub loop-k-preserved : goal.loop-k-preserved
+loop-k-preserved c = let a = c.args in
+    let p = c.requires in
+    let at = c.loop-k in
+    let n = c.line_count-count.ensures.value in
+    let y = c.loop-k-test.true in (
+      omega arith,
+      line_off (sheet_of a.how a.x.now) a.tape.now a.«record» p.0.0.relations p.1.0 _
+          c.coded-w.ensures.value at.k (omega arith) _ c.is_of.ensures.value byte_place bytes _ _ _ _ at.invariant.1 c.if-is_of.false,
+    )
+
+pub returns : goal.returns
+returns c = record {
+  written = let a = c.args in
+      let X = sheet_of a.how a.x.now in
+      let at = c.loop-k in
+      let n = c.line_count-count.ensures.value in
+      let z : at.k ≡ X.count = omega arith in
+      at.invariant.1 ∙ ap (λ (i : ℕ). taken byte_place (here_up_to X a.tape.now a.«record» i)
+      (line_at (sheet_of a.how a.r.now) X a.tape.now a.«record») (length a.lines.now / 2) a.lines.now) z;
+}

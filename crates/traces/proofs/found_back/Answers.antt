@@ -1,0 +1,74 @@
+-- What `traces::found_back` leaves to show.
+use Rattle.lines.specs.Reading.{sheet_of}
+use Rattle.traces.proofs.Lines.{found_line}
+use Rattle.traces.proofs.Ways.{beyond_file, no_point, none_reaches, one_reaches, receiver_line_lem}
+use mathlib.Core.Path.{◌∙◌, refl}
+use native.Mathlib.Omega.{arith}
+use Rattle.traces.proofs.found_back.Goals as goal
+
+pub returns-then-line_count-r_line : goal.returns-then-line_count-r_line
+returns-then-line_count-r_line c = record {
+  answer = let a = c.args in
+      let n = c.line_count.ensures.value in
+      beyond_file (sheet_of a.how a.r.now) (sheet_of a.how a.x.now) a.tape.now a.«record» a.r_line a.component (omega arith);
+}
+
+pub returns-then-not-takes : goal.returns-then-not-takes
+returns-then-not-takes c = record {
+  answer = let a = c.args in
+      let p = c.requires in
+      let n = c.line_count.ensures.value in
+      let l = c.if-line_count-r_line.false in
+      no_point (sheet_of a.how a.r.now) (sheet_of a.how a.x.now) a.tape.now a.«record» a.r_line a.component p.1.1
+      (omega arith) _ refl _ c.takes.ensures.value c.if-not-takes.true;
+}
+
+pub first-k-requires : goal.first-k-requires
+first-k-requires c = let a = c.args in
+    let p = c.requires in
+    let n = c.line_count.ensures.value in
+    let l = c.if-line_count-r_line.false in (
+      receiver_line_lem (sheet_of a.how a.r.now) (sheet_of a.how a.x.now) a.tape.now a.«record» a.r_line a.component p.1.1
+          (omega arith) _ refl _ c.takes.ensures.value c.if-not-takes.false p.0.receivers,
+      (p.0.relations, p.1.0),
+    )
+
+pub returns-then-line_count-k : goal.returns-then-line_count-k
+returns-then-line_count-k c = record {
+  answer = let a = c.args in
+      let p = c.requires in
+      let n = c.line_count.ensures.value in
+      let l = c.if-line_count-r_line.false in
+      none_reaches (sheet_of a.how a.r.now) (sheet_of a.how a.x.now) a.tape.now a.«record» a.r_line a.component p.1.1
+      (omega arith) _ refl _ c.takes.ensures.value c.if-not-takes.false _ c.first-k.ensures.value _
+      c.line_count-2.ensures.value c.if-line_count-k.true;
+}
+
+pub returned-requires : goal.returned-requires
+returned-requires c = let a = c.args in
+    let R = sheet_of a.how a.r.now in
+    let X = sheet_of a.how a.x.now in
+    let p = c.requires in
+    let n = c.line_count.ensures.value in
+    let l = c.if-line_count-r_line.false in
+    let m = c.line_count-2.ensures.value in
+    let k = c.if-line_count-k.false in (
+      (
+        p.0,
+        receiver_line_lem R X a.tape.now a.«record» a.r_line a.component p.1.1 (omega arith) _ refl _ c.takes.ensures.value
+            c.if-not-takes.false p.0.receivers,
+      ),
+      found_line X a.tape.now a.«record» _ _ c.first-k.ensures.value (omega arith),
+    )
+
+pub returns : goal.returns
+returns c = record {
+  answer = let a = c.args in
+      let p = c.requires in
+      let n = c.line_count.ensures.value in
+      let l = c.if-line_count-r_line.false in
+      c.returned.ensures.answer
+      ∙ one_reaches (sheet_of a.how a.r.now) (sheet_of a.how a.x.now) a.tape.now a.«record» a.r_line a.component p.1.1
+      (omega arith) _ refl _ c.takes.ensures.value c.if-not-takes.false _ c.first-k.ensures.value _
+      c.line_count-2.ensures.value c.if-line_count-k.false;
+}

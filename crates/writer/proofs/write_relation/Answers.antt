@@ -1,0 +1,13 @@
+-- What `writer::write_relation` leaves to show.
+use Rattle.writer.proofs.Written.{written}
+use Rattle.writer.proofs.write_relation.Goals as goal
+
+pub returns : goal.returns
+returns c = record {
+  verdict = let p = c.place.ensures in
+      let l = c.relation_line-ok.ensures in
+      (written _ _ l.goes _ _ p.verdict _ _ l.line _ _ p.written).0;
+  written = let p = c.place.ensures in
+      let l = c.relation_line-ok.ensures in
+      (written _ _ l.goes _ _ p.verdict _ _ l.line _ _ p.written).1;
+}
