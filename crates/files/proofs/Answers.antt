@@ -1,68 +1,53 @@
--- What follows on an answer of read, from the tests that tell the answers apart.
-use mathlib.Core.Path.{◌≡◌, refl, ap, subst, ◌∙◌}
-use mathlib.Core.Bool.{Bool, true, false}
-use Prim.Native.Nat.{ℕ, zero, suc, ◌≤◌, ◌<◌, zero-le}
-use native.Mathlib.Nat.{lt_of_le_of_lt}
-use native.Mathlib.Omega.{arith}
-use lib.Dec.{T, leb, lit<}
-use lib.IntN.{ℤ, pos, negsuc, nat_abs}
-use lib.Signed.{lt_z, non_neg, nat_abs-le}
-use mir.Syntax.{w64}
-use mir.Val.{Fits, SFits}
-use borrow.Author.Tests.{ltb-true, le-leb, lt-leb}
-use Rattle.libc.specs.Io.{Moved}
+-- What follows on an answer of read, and that no more comes than a call has read.
+use Rattle.std.specs.Prelude.{ℕ, zero, suc, ◌≤◌, ◌≡◌, Bool, true, false, leb, Option, None, Some, IfSome, Result, Ok, Err, List, length}
+use Rattle.std.specs.Result.{result_ok}
+use Rattle.std.specs.Io.{ReadsAtMost}
+use Rattle.std.proofs.Common.{refl, ◌<◌, arith}
+use Prim.Native.Nat.{zero-le}
+use borrow.Author.Tests.{le-leb, lt-leb}
 use Rattle.rules.specs.Places.{pick}
 use Rattle.files.specs.declared.input.Input.TheVariants.{Missing, Longer, Bytes}
 use Rattle.files.specs.declared.input.Step.{Step}
 use Rattle.files.specs.declared.input.Step.TheVariants.{Known, Came}
 use Rattle.files.specs.Reads.{next, came}
 
--- an answer is what the machine reads back from its bits
-pub read_as_lem : {t : Step} (z x : ℤ) (n room : ℕ) → x ≡ z → t ≡ next x n room → t ≡ next z n room
-read_as_lem z x n room e h = h ∙ ap (λ (v : ℤ). next v n room) e
-
-pub not_below_lem : (z : ℤ) → lt_z z (pos 0) ≡ false → T (non_neg z)
-not_below_lem (pos k) e = tt
-not_below_lem (negsuc k) e = subst T e tt
-
-pub fits_unsigned : (z x : ℤ) → x ≡ z → SFits w64 z → Fits w64 (nat_abs x)
-fits_unsigned z x e f = rw e (record { fits = lt_of_le_of_lt (nat_abs-le z f.sfits) (lit< tt) })
-
-pub failed : (z : ℤ) (n room : ℕ) → lt_z z (pos 0) ≡ true → Known Missing ≡ next z n room
+pub failed : (n room : ℕ) → Known Missing ≡ next None n room
 unfolding next
-failed (pos k) n room e = absurd (omega (arith, ltb-true k 0 e))
-failed (negsuc k) n room e = refl
+failed n room = refl
 
-pub ended : (z : ℤ) (n room : ℕ) → lt_z z (pos 0) ≡ false → nat_abs z ≡ 0 → Known (Bytes n) ≡ next z n room
+pub ended : (m n room : ℕ) → m ≡ 0 → Known (Bytes n) ≡ next (Some m) n room
 unfolding next
-ended (pos zero) n room e h = refl
-ended (pos (suc m)) n room e h = absurd (omega arith)
-ended (negsuc k) n room e h = absurd (subst T e tt)
+ended zero n room h = refl
+ended (suc m) n room h = absurd (omega arith)
 
-pub went_over : (z : ℤ) (n room : ℕ) → lt_z z (pos 0) ≡ false → (nat_abs z ≡ 0 → ⊥) → room < nat_abs z → Known Longer ≡ next z n room
+pub went_over : (m n room : ℕ) → (m ≡ 0 → ⊥) → room < m → Known Longer ≡ next (Some m) n room
 unfolding next pick
-went_over (pos zero) n room e h o = absurd (h refl)
-went_over (pos (suc m)) n room e h o = rw (lt-leb (suc m) room o)
-went_over (negsuc k) n room e h o = absurd (subst T e tt)
+went_over zero n room h o = absurd (h refl)
+went_over (suc m) n room h o = rw (lt-leb (suc m) room o)
 
-pub came_in : (z : ℤ) (n room : ℕ) → lt_z z (pos 0) ≡ false → (nat_abs z ≡ 0 → ⊥) → nat_abs z ≤ room → Came (nat_abs z) ≡ next z n room
+pub came_in : (m n room : ℕ) → (m ≡ 0 → ⊥) → m ≤ room → Came m ≡ next (Some m) n room
 unfolding next pick
-came_in (pos zero) n room e h o = absurd (h refl)
-came_in (pos (suc m)) n room e h o = rw (le-leb (suc m) room o)
-came_in (negsuc k) n room e h o = absurd (subst T e tt)
+came_in zero n room h o = absurd (h refl)
+came_in (suc m) n room h o = rw (le-leb (suc m) room o)
 
--- no more came than the call moved
+-- no more comes than was read
 picked_within : (t : Bool) (m k : ℕ) → m ≤ k → came (pick t (Came m) (Known Longer)) ≤ k
 unfolding pick
 picked_within true m k h = h
 picked_within false m k h = zero-le
 
-came_within : (z : ℤ) (n room k : ℕ) → Moved k z → came (next z n room) ≤ k
+pub came_within : (z : Option ℕ) (n room k : ℕ) → IfSome z (λ m. m ≤ k) → came (next z n room) ≤ k
 unfolding next
-came_within (pos zero) n room k h = zero-le
-came_within (pos (suc m)) n room k h = picked_within (leb (suc m) room) (suc m) k h
-came_within (negsuc j) n room k h = zero-le
+came_within None n room k h = zero-le
+came_within (Some zero) n room k h = zero-le
+came_within (Some (suc m)) n room k h = picked_within (leb (suc m) room) (suc m) k h
 
--- the same of the bytes that a call of read answers
-pub came_read : (x z : ℤ) (n room k : ℕ) (t : Step) (m : ℕ) → x ≡ z → Moved k z → t ≡ next x n room → m ≡ came t → m ≤ k
-came_read x z n room k t m e h f g = rw (g, f, e) (came_within z n room k h)
+-- the same of what a call of read answers
+read_within : {E : Type 0} (r : Result ℕ E) (xs : List ℕ) → ReadsAtMost r xs → IfSome (result_ok r) (λ m. m ≤ length xs)
+read_within (Ok m) xs b = b.0
+read_within (Err e) xs b = tt
+
+pub came_read :
+    {E : Type 0} (r : Result ℕ E) (xs : List ℕ) (n room : ℕ) (t : Step) (z : Option ℕ) (m : ℕ) → ReadsAtMost r xs → z ≡ result_ok r → t ≡ next z n room → m ≡ came t
+    → m ≤ length xs
+came_read r xs n room t z m b e f g = rw (g, f, e) (came_within (result_ok r) n room (length xs) (read_within r xs b))

@@ -6,7 +6,7 @@ use mathlib.Core.Path.{◌≡◌, sym, ap, ◌∙◌}
 use mathlib.Core.List.{List}
 use Rattle.rules.specs.Plan.{№}
 use Rattle.rules.specs.Disc.{file}
-use Rattle.rules.specs.Check.{refusal, formed, cross}
+use Rattle.rules.specs.Check.{refusal, cross}
 use Rattle.rules.specs.OneFile.{file_form}
 use Rattle.rules.proofs.OneFile.{first_part, second_part, third_part}
 use Rattle.lines.specs.Reading.{on_disc, sheet_of}

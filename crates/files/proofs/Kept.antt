@@ -6,7 +6,7 @@ use Prim.Native.Nat.{ℕ, zero, suc, ◌+◌, ◌-◌, ◌≤◌, zero-le}
 use native.Mathlib.Nat.{add-zero}
 use native.Mathlib.Omega.{arith}
 use lib.Dec.{leb}
-use lib.IntN.{ℤ, pos, negsuc}
+use Rattle.std.specs.Prelude.{Option, None, Some}
 use lib.ListN.{length, take, drop, length-take, length-drop}
 use lib.Seq.{length-take-le, take_all, drop_at, drop-drop, drop-length, drop-append-add}
 use borrow.Author.Tests.{leb-true}
@@ -34,7 +34,7 @@ unfolding over
 over_rest p o m h = picked_rest (leb (length p) (length o)) p o m h
 
 -- a buffer b with the bytes l in place of those from n on
-abbrev with : ℕ → List ℕ → List ℕ → List ℕ
+abbrev pub with : ℕ → List ℕ → List ℕ → List ℕ
 with n b l = take n b ++ (l ++ drop (length b - n) (drop n b))
 
 with_rest : (n : ℕ) (b l : List ℕ) → n ≤ length b → drop n (with n b l) ≡ l
@@ -59,7 +59,7 @@ module _ (n : ℕ) (b b₀ ch l : List ℕ) (h : n ≤ length b) (e : drop n b �
   none_kept : l ≡ over (take 0 ch) (take (length b - n) (drop n b)) → drop n (with n b l) ≡ drop n b₀
   none_kept w = rw add-zero at (more_kept 0 w)
 
-same_known : (i j : Input) → Known i ≡ Known j → i ≡ j
+pub same_known : (i j : Input) → Known i ≡ Known j → i ≡ j
 same_known i j e = cc
 
 apart : (m : ℕ) (i : Input) → Came m ≡ Known i → ⊥
@@ -71,11 +71,11 @@ unfolding pick
 picked_known P true m i p e = absurd (apart m i e)
 picked_known P false m i p e = subst P (same_known Longer i e) p
 
-known_all : (P : Input → Type 0) (z : ℤ) (n room : ℕ) (i : Input) → P Missing → P Longer → P (Bytes n) → next z n room ≡ Known i → P i
+pub known_all : (P : Input → Type 0) (z : Option ℕ) (n room : ℕ) (i : Input) → P Missing → P Longer → P (Bytes n) → next z n room ≡ Known i → P i
 unfolding next
-known_all P (negsuc k) n room i p q r e = subst P (same_known Missing i e) p
-known_all P (pos zero) n room i p q r e = subst P (same_known (Bytes n) i e) r
-known_all P (pos (suc m)) n room i p q r e = picked_known P (leb (suc m) room) (suc m) i q e
+known_all P None n room i p q r e = subst P (same_known Missing i e) p
+known_all P (Some zero) n room i p q r e = subst P (same_known (Bytes n) i e) r
+known_all P (Some (suc m)) n room i p q r e = picked_known P (leb (suc m) room) (suc m) i q e
 
 pub known_kept :
     (i : Input) (t : Step) (n room : ℕ) (b b₀ ch l : List ℕ) → t ≡ Known i → Follows n room t → n ≤ length b → length b ≡ length b₀ → drop n b ≡ drop n b₀
@@ -91,11 +91,11 @@ unfolding pick
 picked_came true k room m h e = let q : suc k ≡ m = cc in let g = h refl in (omega arith, omega arith)
 picked_came false k room m h e = absurd (apart m Longer (sym e))
 
-came_some : (z : ℤ) (n room m : ℕ) → next z n room ≡ Came m → (1 ≤ m) × (m ≤ room)
+came_some : (z : Option ℕ) (n room m : ℕ) → next z n room ≡ Came m → (1 ≤ m) × (m ≤ room)
 unfolding next
-came_some (negsuc k) n room m e = absurd (apart m Missing (sym e))
-came_some (pos zero) n room m e = absurd (apart m (Bytes n) (sym e))
-came_some (pos (suc k)) n room m e = picked_came (leb (suc k) room) k room m (leb-true (suc k) room) e
+came_some None n room m e = absurd (apart m Missing (sym e))
+came_some (Some zero) n room m e = absurd (apart m (Bytes n) (sym e))
+came_some (Some (suc k)) n room m e = picked_came (leb (suc k) room) k room m (leb-true (suc k) room) e
 
 pub came_room : (m : ℕ) (t : Step) (n : ℕ) (b : List ℕ) → t ≡ Came m → Follows n (length (take (length b - n) (drop n b))) t → (1 ≤ m) × (m ≤ length b - n)
 came_room m t n b e f =

@@ -2,7 +2,7 @@
 --   Says f o o' n = o' is o with f in its first places, and n the length of f
 use mathlib.Core.Path.{◌≡◌, ap, ◌∙◌}
 use mathlib.Core.List.{List, [], ◌∷◌}
-use Prim.Native.Nat.{ℕ, ◌≤◌, zero-le}
+use Prim.Native.Nat.{ℕ, zero-le}
 use native.Mathlib.Omega.{arith}
 use lib.ListN.{length}
 use borrow.Author.Tests.{le-leb}
@@ -20,8 +20,8 @@ pub record Says (f o o' : List ℕ) (n : ℕ) : Type 0 where
   pub written : o' ≡ over f o
 
 -- the clauses of a call that says something
-pub says : {f o o' : List ℕ} {n : ℕ} → (n ≡ length f) × ((o' ≡ over f o) × (n ≤ 114)) → Says f o o' n
-says e = record { value = e.0; written = e.1.0 }
+pub says : {f o o' : List ℕ} {n : ℕ} → n ≡ length f → o' ≡ over f o → Says f o o' n
+says e w = record { value = e; written = w }
 
 pub over_none : (o : List ℕ) → over [] o ≡ o
 unfolding over pick

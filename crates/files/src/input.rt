@@ -1,14 +1,24 @@
-// A file read into a lent buffer. `next` alone decides what follows on a call of read, from what the call answered. Of the bytes
-// of a slice that is read into no contract speaks, so a call reads into a chunk, and its bytes are copied to their place.
-ghost use Rattle.std.specs.Prelude.{◌≡◌, ◌≤◌, length, take};
+// A file read into a lent buffer. `next` alone decides what follows on a call of read, from what the call answered. A call reads
+// into a chunk, and its bytes are copied to their place.
+ghost use Rattle.std.specs.Prelude.{◌≡◌, ◌≤◌, ◌<◌, IfSome, length, take};
 ghost use Rattle.texts.specs.Buffer.{over};
-ghost use Rattle.files.specs.Reads.{size_of, rest_of, next as next_of, came as came_of, Follows, path as path_of, Found};
+ghost use Rattle.files.specs.Reads.{size_of, rest_of, next as next_of, came as came_of, Follows, Tells, IsRead, path as path_of, Found};
 
 use crate::first;
-use libc::{PATH_MAX, SEEK_CUR};
+use std::fs;
+use std::fs::File;
+use std::io::{Read, Seek};
+use std::os::unix::fs::FileTypeExt;
+use std::rt::Files;
+
+// The most bytes of a path that the system has room for.
+const PATH_MAX: usize = 4096;
+
+// The most bytes that one call reads.
+const CHUNK: usize = 4096;
 
 // What was found of a file: it cannot be opened or read; it is longer than its buffer; or so many bytes of the buffer are its own.
-#[derive(Drop)]
+#[derive(Clone, Copy)]
 pub enum Input {
     Missing,
     Longer,
@@ -16,21 +26,21 @@ pub enum Input {
 }
 
 // A path by value: its bytes, and how many they are.
-#[derive(Drop)]
+#[derive(Clone, Copy)]
 pub struct Path {
     bytes: [u8; PATH_MAX],
     size: usize,
 }
 
 // What was found of the file at a path. Outside of this module nothing makes one.
-#[derive(Drop)]
+#[derive(Clone, Copy)]
 pub struct Loaded {
     path: Path,
     input: Input,
 }
 
 // What follows on a call of read: all is known of the file, or so many bytes more of it came.
-#[derive(Drop)]
+#[derive(Clone, Copy)]
 pub enum Step {
     Known(Input),
     Came(usize),
@@ -44,14 +54,13 @@ impl Loaded {
     }
 }
 
-// What follows on an answer of read, where n bytes have come and the buffer has room for so many more.
-pub fn next(got: isize, n: usize, room: usize) -> Step
+// What follows on an answer of read, `None` where the call failed, where n bytes have come and the buffer has room for so many more.
+pub fn next(got: Option<usize>, n: usize, room: usize) -> Step
     ensures value { result ≡ next_of got n room }
 {
-    if got < 0 {
+    let Some(m) = got else {
         return Step::Known(Input::Missing);
-    }
-    let m = got as usize;
+    };
     if m == 0 {
         return Step::Known(Input::Bytes(n));
     }
@@ -72,11 +81,13 @@ pub fn came(t: Step) -> usize
 }
 
 // One call of read, after n bytes: what follows on it, with its bytes in the first places of what is left of the buffer.
-fn piece(fd: i32, n: usize, left: &mut [u8], chunk: &mut [u8]) -> Step
+fn piece<F: Read>(file: &mut F, n: usize, left: &mut [u8], chunk: &mut [u8]) -> Step
     ensures follows { Follows n (length left.old) result }
     ensures written { left.new ≡ over (take (came_of result) chunk.new) left.old }
+    ensures stands { came_of result ≤ length chunk.new }
+    ensures bytes { 0 < length chunk.old → Tells (F.remaining file.old) (F.remaining file.new) result (length left.old) chunk.new }
 {
-    let got = libc::read(fd, chunk);
+    let got = file.read(chunk).ok();
     let t = next(got, n, left.len());
     let m = came(t);
     words::place(&chunk[..m], left);
@@ -84,15 +95,16 @@ fn piece(fd: i32, n: usize, left: &mut [u8], chunk: &mut [u8]) -> Step
 }
 
 // Reads an open file to its end, or to where it is longer than the buffer.
-fn read(fd: i32, buf: &mut [u8]) -> Input
+fn read<F: Read>(file: &mut F, buf: &mut [u8]) -> Input
     ensures fits { size_of result ≤ length buf.old }
     ensures rest { rest_of result buf.new ≡ rest_of result buf.old }
+    ensures known { IfSome (F.remaining file.old) (λ xs. IsRead result xs buf.new) }
 {
-    let mut space = io::buffer();
+    let mut space = [0u8; CHUNK];
     let chunk: &mut [u8] = &mut space;
     let mut n = 0;
     loop {
-        let t = piece(fd, n, &mut buf[n..], chunk);
+        let t = piece(file, n, &mut buf[n..], chunk);
         match t {
             Step::Known(i) => return i,
             Step::Came(m) => n += m,
@@ -112,47 +124,44 @@ pub fn path_of(text: &[u8]) -> Path
     }
 }
 
-// Whether a FIFO stands at the path. To open one for reading waits for somebody who writes; to open it for both does not, and it has no place
-// that could be sought. A file that may not be written is taken as none.
-fn is_fifo(path: &[u8]) -> bool {
-    let fd = os::open_update(path);
-    if fd < 0 {
-        return false;
+// Whether a FIFO stands at the path: to open one for reading waits for somebody who writes.
+fn is_fifo(rt: &impl Files, path: &str) -> bool {
+    match fs::metadata(rt, path) {
+        Ok(about) => about.file_type().is_fifo(),
+        Err(_) => false,
     }
-    let at = libc::lseek(fd, 0, SEEK_CUR);
-    libc::close(fd);
-    at < 0
 }
 
-// Opens a file: a descriptor, or a number below 0. A FIFO is no file.
-fn open(path: Path) -> i32 {
+// Opens a file, where there is one. A FIFO is no file, nor is what has no place in it that could be sought, as a terminal. A path is text.
+fn open<R: Files>(rt: &R, path: Path) -> Option<R::File> {
     let bytes = path.bytes;
-    let name = first(path.size, &bytes);
-    if is_fifo(name) {
-        return -1;
+    let name = str::from_utf8(first(path.size, &bytes)).ok()?;
+    if is_fifo(rt, name) {
+        return None;
     }
-    os::open_read(name)
+    let mut file = File::open(rt, name).ok()?;
+    file.stream_position().ok()?;
+    Some(file)
 }
 
 // Reads what was opened, and closes it.
-fn take_in(fd: i32, buf: &mut [u8]) -> Input
+fn take_in<F: Read + Drop>(file: Option<F>, buf: &mut [u8]) -> Input
     ensures fits { size_of result ≤ length buf.old }
     ensures rest { rest_of result buf.new ≡ rest_of result buf.old }
+    ensures known { IfSome file (λ f. IfSome (F.remaining f) (λ xs. IsRead result xs buf.new)) }
 {
-    if fd < 0 {
-        return Input::Missing;
+    match file {
+        None => Input::Missing,
+        Some(mut file) => read(&mut file, buf),
     }
-    let i = read(fd, buf);
-    libc::close(fd);
-    i
 }
 
 // Reads the file at a path.
-pub fn load(text: &[u8], buf: &mut [u8]) -> Loaded
+pub fn load<R: Files>(rt: &R, text: &[u8], buf: &mut [u8]) -> Loaded
     ensures found { Found text.now result buf.old buf.new }
 {
     let path = path_of(text);
-    let input = take_in(open(path), buf);
+    let input = take_in(open(rt, path), buf);
     Loaded { path, input }
 }
 

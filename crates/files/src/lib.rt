@@ -1,4 +1,5 @@
-// The files of a set: each is read into a lent buffer, and one line says what they are. Of what is read or printed no
+#![tactic(auto)]
+// The files of a set: each is read into a lent buffer, and one line says what they are. Of what the system reads or prints no
 // contract can speak; so `input` decides on what the calls of read answer, `report` says all of the line on slices, `tell` only
 // reads and hands over to it, and `print` only prints.
 ghost use Rattle.std.specs.Prelude.{◌≡◌, ◌≤◌, length, take};
@@ -11,13 +12,14 @@ ghost use Rattle.files.specs.Report.{part as part_of, fault as fault_of, report 
 
 use lines::Verdict;
 use sets::Answer;
+use std::rt::Files;
 
 mod input;
 
 pub use input::{Input, Loaded, load, size};
 
 // What was said of three files: the length of their line, and what was found of each.
-#[derive(Drop)]
+#[derive(Clone, Copy)]
 pub struct Said {
     pub size: usize,
     pub r: Loaded,
@@ -26,7 +28,7 @@ pub struct Said {
 }
 
 // What was said of three files, and whether all of it was written.
-#[derive(Drop)]
+#[derive(Clone, Copy)]
 pub struct Printed {
     pub said: Said,
     pub whole: bool,
@@ -108,7 +110,8 @@ pub fn report(i: Input, r: &[u8], j: Input, s: &[u8], k: Input, x: &[u8], out: &
 }
 
 // Reads the files at three paths into lent buffers and says what they are.
-pub fn tell(
+pub fn tell<R: Files>(
+    rt: &R,
     r: &[u8],
     s: &[u8],
     x: &[u8],
@@ -124,9 +127,9 @@ pub fn tell(
     ensures written { out.new ≡ over (told result a.new b.new c.new) out.old }
     ensures small { result.size ≤ 114 }
 {
-    let i = load(r, a);
-    let j = load(s, b);
-    let k = load(x, c);
+    let i = load(rt, r, a);
+    let j = load(rt, s, b);
+    let k = load(rt, x, c);
     let size = report(i.input(), a, j.input(), b, k.input(), c, out);
     Said {
         size,
@@ -137,14 +140,22 @@ pub fn tell(
 }
 
 // Prints the line of the files at three paths, read into lent buffers.
-pub fn print(r: &[u8], s: &[u8], x: &[u8], a: &mut [u8], b: &mut [u8], c: &mut [u8]) -> Printed
+pub fn print<R: Files + Print>(
+    rt: &R,
+    r: &[u8],
+    s: &[u8],
+    x: &[u8],
+    a: &mut [u8],
+    b: &mut [u8],
+    c: &mut [u8],
+) -> Printed
     ensures r_found { Found r.now result.said.r a.old a.new }
     ensures s_found { Found s.now result.said.s b.old b.new }
     ensures x_found { Found x.now result.said.x c.old c.new }
 {
     let mut line = [0u8; 120];
-    let said = tell(r, s, x, a, b, c, &mut line);
+    let said = tell(rt, r, s, x, a, b, c, &mut line);
     let n = said.size;
-    let whole = io::write_all(libc::STDOUT_FILENO, &line[..n]);
+    let whole = rt.write_all(&line[..n]).is_ok();
     Printed { said, whole }
 }
