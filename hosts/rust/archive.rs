@@ -10,7 +10,7 @@ use std::env;
 pub fn link(name: &str) {
     let package = env::var("CARGO_MANIFEST_DIR").expect("cargo names the package");
     let root = root(package);
-    let archive = made(&root, &format!("staticlib/lib{name}.a"), ["staticlib", name]);
+    let archive = made(&root, name, "lib", &format!("staticlib/lib{name}.a"));
     for path in sources(&root).iter().chain([&archive]) {
         println!("cargo:rerun-if-changed={}", path.display());
     }

@@ -1,7 +1,7 @@
 //! The first command, `./build`, with an `rt` and a `cargo` of the test's own, so that nothing is
 //! proved twice.
 
-use crate::tools::{copy, folder, output, root, text};
+use crate::tools::{copy, output, outside, root, text};
 use std::fs;
 use std::io::{BufRead, BufReader};
 use std::os::unix::fs::{symlink, PermissionsExt};
@@ -9,26 +9,24 @@ use std::path::{Path, PathBuf};
 use std::process::{Command, Stdio};
 use std::time::{Duration, Instant};
 
-/// Proves what it is asked to, and is quiet for some seconds over the library.
+/// Proves the crate that it is called in, and is quiet for some seconds over the library.
 const RT: &str = r#"#!/bin/sh
-echo "rt $*" >>asked
-case $1 in
-version) echo "${RT_VERSION:-}" ;;
-check) shift; for name; do echo "fn $name::some: proved"; echo "rt: $name proved (1 s)"; done ;;
-staticlib)
-    [ -z "${RT_FAILS:-}" ] || { echo "rt: $2 NOT PROVED (exit 1, 2 s)" >&2; exit 1; }
-    sleep "${RT_SLEEPS:-0}"
-    mkdir -p target/staticlib
-    echo archive >"target/staticlib/lib$2.a" ;;
-esac
+name=${PWD##*/}
+[ "$1" = version ] && { echo "rt version" >>asked; echo "${RT_VERSION:-}"; exit; }
+echo "$name: rt $*" >>../../asked
+mkdir -p out
+[ "$name" = sps ] || { echo "fn $name::some: proved"; exit; }
+[ -z "${RT_FAILS:-}" ] || { echo "rattle build: nothing was built" >&2; exit 1; }
+sleep "${RT_SLEEPS:-0}"
+echo archive >out/libsps.a
 "#;
 
 const CARGO: &str = "#!/bin/sh\necho \"cargo $*\" >>asked\n";
 
 /// What the script calls, beside `rt` and `cargo`.
-const TOOLS: [&str; 14] = [
-    "awk", "bash", "cat", "cc", "cut", "dirname", "env", "find", "mkdir", "sh", "sleep", "tail",
-    "tee", "touch",
+const TOOLS: [&str; 15] = [
+    "awk", "bash", "cat", "cc", "cp", "cut", "dirname", "env", "find", "mkdir", "sh", "sleep",
+    "tail", "tee", "touch",
 ];
 
 fn script(place: &Path, text: &str) {
@@ -38,13 +36,15 @@ fn script(place: &Path, text: &str) {
 
 /// A repository of three crates, and one that `sps` does not need, with tools of its own.
 fn repository(name: &str, tools: &[(&str, &str)]) -> PathBuf {
-    let place = folder(name);
+    let place = outside(name);
     for file in ["build", "toolchain.txt"] {
         copy(&root().join(file), &place.join(file)).expect("a copy");
     }
-    fs::create_dir_all(place.join("crates/rules")).expect("a folder");
+    for name in ["rules", "lines", "sps", "files"] {
+        fs::create_dir_all(place.join("crates").join(name).join("src")).expect("a folder");
+    }
     fs::create_dir(place.join("bin")).expect("a folder");
-    let crates = "rules:\nlines: rules\nsps: rules lines\nfiles: rules io\n";
+    let crates = "rules:\nlines: rules\nsps staticlib: rules lines\nfiles: rules io\n";
     fs::write(place.join("crates.txt"), crates).expect("a file");
     let path = std::env::var_os("PATH").expect("a path");
     for tool in TOOLS {
@@ -108,7 +108,8 @@ fn progress() {
     }
     let end = &lines[lines.len() - 2..];
     assert_eq!(end, ["compiling spswhy", "ready: hosts/rust/target/release/spswhy"]);
-    assert_eq!(asked(&place), ["rt version", "rt check rules lines", "rt staticlib sps", COMPILE]);
+    let proved = ["rules: rt lib", "lines: rt lib", "sps: rt lib"];
+    assert_eq!(asked(&place), [&["rt version"][..], &proved, &[COMPILE]].concat());
 }
 
 /// What is proved is not proved again, and needs no `rt`, until a crate changes.
@@ -124,9 +125,9 @@ fn proved_once() {
     assert_eq!(asked(&place), [COMPILE]);
 
     fs::rename(place.join("rt"), place.join("bin/rt")).expect("rt");
-    fs::write(place.join("crates/rules/lib.rt"), "").expect("a changed crate");
+    fs::write(place.join("crates/rules/src/lib.rt"), "").expect("a changed crate");
     assert!(output(&mut build(&place)).status.success());
-    assert!(asked(&place).contains(&"rt staticlib sps".to_owned()));
+    assert!(asked(&place).contains(&"sps: rt lib".to_owned()));
 }
 
 /// One line says what is missing, and where it comes from.
@@ -180,6 +181,6 @@ fn not_proved() {
     assert_eq!(ended.status.code(), Some(1));
     let said = text(&ended.stderr);
     assert!(said.starts_with("build: libsps is not proved; "), "{said}");
-    assert!(said.ends_with("rt: sps NOT PROVED (exit 1, 2 s)\n"), "{said}");
+    assert!(said.ends_with("rattle build: nothing was built\n"), "{said}");
     assert!(!asked(&place).contains(&COMPILE.to_owned()));
 }

@@ -1,7 +1,6 @@
 //! A copy of the repository as a fresh clone has it, with what `rt` has made beside it.
 
-use crate::tools::{copy, printed, root};
-use std::fs;
+use crate::tools::{copy, outside, printed, root};
 use std::path::{Path, PathBuf};
 use std::process::Command;
 use std::sync::OnceLock;
@@ -18,9 +17,7 @@ pub fn git(words: &[&str]) -> String {
 pub fn built() -> &'static Path {
     static COPY: OnceLock<PathBuf> = OnceLock::new();
     COPY.get_or_init(|| {
-        // Not below hosts/rust, whose workspace a crate made in the clone would join.
-        let to = root().join("target/clone");
-        let _ = fs::remove_dir_all(&to);
+        let to = outside("clone");
         for name in git(&["ls-files", "-z"]).split_terminator('\0') {
             copy(&root().join(name), &to.join(name)).unwrap_or_else(|why| panic!("{name}: {why}"));
         }

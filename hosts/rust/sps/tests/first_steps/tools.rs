@@ -1,5 +1,6 @@
 //! Folders and commands that the tests share.
 
+use std::hash::{DefaultHasher, Hash, Hasher};
 use std::path::{Path, PathBuf};
 use std::process::{Command, Output};
 use std::{fs, io};
@@ -11,7 +12,19 @@ pub fn root() -> PathBuf {
 
 /// An empty folder below cargo's directory for tests.
 pub fn folder(name: &str) -> PathBuf {
-    let folder = Path::new(env!("CARGO_TARGET_TMPDIR")).join("first_steps").join(name);
+    emptied(Path::new(env!("CARGO_TARGET_TMPDIR")).join("first_steps").join(name))
+}
+
+/// An empty folder outside of this repository, for another one: `rt ci` refuses a `crates.txt`
+/// below the top.
+pub fn outside(name: &str) -> PathBuf {
+    let mut place = DefaultHasher::new();
+    root().hash(&mut place);
+    let place = format!("first_steps_{:016x}", place.finish());
+    emptied(std::env::temp_dir().join(place).join(name))
+}
+
+fn emptied(folder: PathBuf) -> PathBuf {
     let _ = fs::remove_dir_all(&folder);
     fs::create_dir_all(&folder).expect("a folder");
     folder

@@ -89,7 +89,7 @@ fn the_command_on_one_file() {
 #[test]
 fn the_program() {
     let root = made::root(env!("CARGO_MANIFEST_DIR"));
-    let spschk = made::made(&root, "bin/spschk", ["check", "spschk"]);
+    let spschk = made::made(&root, "spschk", "run", "bin/spschk");
     let run = |folder: &Path, _: &[&str]| {
         Command::new(&spschk).current_dir(folder).output().expect("spschk runs")
     };

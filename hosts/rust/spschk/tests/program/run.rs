@@ -11,7 +11,7 @@ fn program() -> &'static Path {
     static PROGRAM: OnceLock<PathBuf> = OnceLock::new();
     PROGRAM.get_or_init(|| {
         let root = fs::canonicalize(spschk::root()).expect("a repository");
-        made(&root, "bin/spschk", ["check", "spschk"])
+        made(&root, "spschk", "run", "bin/spschk")
     })
 }
 
