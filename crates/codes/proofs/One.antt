@@ -10,7 +10,7 @@ use Rattle.codes.specs.contracts.is_code as is_code
 use Rattle.codes.proofs.is_code.Reads as is_code_reads
 use Rattle.codes.specs.contracts.tables.place as place
 use Rattle.codes.proofs.tables.place.Reads as place_reads
-use Rattle.codes.specs.contracts.tables.named_by as Named-by
+use Rattle.codes.specs.contracts.tables.named_by as NamedBy
 use Rattle.codes.proofs.tables.named_by.Reads as named_by_reads
 
 pub codes_fit_one : One codes_fit.ended codes_fit_reads.Post
@@ -22,7 +22,7 @@ line_naming_one κs a v v' w w' = alike
 pub place_one : One place.ended place_reads.Post
 place_one κs a v v' w w' = alike
 
-pub named_by_one : One Named-by.ended named_by_reads.Post
+pub named_by_one : One NamedBy.ended named_by_reads.Post
 named_by_one κs a v v' w w' = alike
 
 pub is_code_one : One is_code.ended is_code_reads.Post

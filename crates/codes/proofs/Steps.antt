@@ -27,29 +27,29 @@ digit_range b t = simp says at t
 
 -- instruments
 module _ (b d : ℕ) where
-  abbrev Instrument : ℕ → ℕ
-  Instrument p = pick (is_instrument (b ∷ d ∷ [])) p 243
+  abbrev instrument : ℕ → ℕ
+  instrument p = pick (is_instrument (b ∷ d ∷ [])) p 243
 
-  pub no_comma : (d ≡ 44 → ⊥) → 243 ≡ Instrument (b - 49)
+  pub no_comma : (d ≡ 44 → ⊥) → 243 ≡ instrument (b - 49)
   unfolding pick col
   no_comma n = rw (ne_eqb d 44 n, and-false (digit1 b))
 
   module _ (t : Bool) (e : t ≡ digit1 b) where
-    pub no_digit : t ≡ false → 243 ≡ Instrument (b - 49)
+    pub no_digit : t ≡ false → 243 ≡ instrument (b - 49)
     unfolding pick col
     no_digit n = rw (sym e ∙ n)
 
-    pub instrument_here : d ≡ 44 → t ≡ true → b - 49 ≡ Instrument (b - 49)
+    pub instrument_here : d ≡ 44 → t ≡ true → b - 49 ≡ instrument (b - 49)
     unfolding pick col
     instrument_here q y = rw (sym e ∙ y, eq-eqb d 44 q)
 
 -- points
 module _ (i b d : ℕ) where
-  abbrev Pointed : ℕ → ℕ
-  Pointed p = pick (of_family i (b ∷ d ∷ [])) p 243
+  abbrev pointed : ℕ → ℕ
+  pointed p = pick (of_family i (b ∷ d ∷ [])) p 243
 
   module _ (t : Bool) (e : t ≡ digit1 d) where
-    pub no_point_digit : t ≡ false → (p : ℕ) → 243 ≡ Pointed p
+    pub no_point_digit : t ≡ false → (p : ℕ) → 243 ≡ pointed p
     unfolding pick col
     no_point_digit n p = rw (sym e ∙ n, and-false (family i b))
 
@@ -61,12 +61,12 @@ module _ (i b d : ℕ) where
           let h = w.1 in
           f ∙ (rw (ne_eqb d 77 (λ z. omega arith), ne_eqb d 76 (λ z. omega arith), and-false (eqb b 80), and-false (eqb b 75)))
 
-      pub no_code : u ≡ false → (p : ℕ) → 243 ≡ Pointed p
+      pub no_code : u ≡ false → (p : ℕ) → 243 ≡ pointed p
       unfolding pick
       no_code n p = rw (sym code_digit ∙ n)
 
       module _ (z : u ≡ true) where
-        pub point_here : (p : ℕ) → p ≡ Pointed p
+        pub point_here : (p : ℕ) → p ≡ pointed p
         unfolding pick
         point_here p = rw (sym code_digit ∙ z)
 
@@ -80,7 +80,7 @@ module _ (i b d : ℕ) where
   unfolding pick col
   for_instrument e p q = q ∙ sym (rw (is_code_lem i (b ∷ d ∷ []), eq-eqb i 3 e))
 
-  pub for_point : (i ≡ 3 → ⊥) → (p : ℕ) → p ≡ Pointed (9 + 9 * (b - 65) + (d - 49)) → p ≡ place_for i (b ∷ d ∷ [])
+  pub for_point : (i ≡ 3 → ⊥) → (p : ℕ) → p ≡ pointed (9 + 9 * (b - 65) + (d - 49)) → p ≡ place_for i (b ∷ d ∷ [])
   unfolding pick col
   for_point n p q = q ∙ sym (rw (is_code_lem i (b ∷ d ∷ []), ne_eqb i 3 n))
 

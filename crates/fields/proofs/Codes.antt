@@ -24,26 +24,26 @@ module _ (l : List ℕ) (a : ℕ) (o : 1 ≤ a) where
   seconds : drop 4 (cols l a (a + 5)) ≡ cols l (a + 4) (a + 5)
   seconds = cols_drop l a o (a + 5) 4 (omega arith)
 
-  abbrev Hours : Bool
-  Hours = between 0 23 (digits (cols l a (a + 1)))
+  abbrev hours_fit : Bool
+  hours_fit = between 0 23 (digits (cols l a (a + 1)))
 
-  abbrev Minutes : Bool
-  Minutes = between 0 59 (digits (cols l (a + 2) (a + 3)))
+  abbrev minutes_fit : Bool
+  minutes_fit = between 0 59 (digits (cols l (a + 2) (a + 3)))
 
-  abbrev Seconds : Bool
-  Seconds = between 0 59 (digits (cols l (a + 4) (a + 5)))
+  abbrev seconds_fit : Bool
+  seconds_fit = between 0 59 (digits (cols l (a + 4) (a + 5)))
 
-  whole : (Hours && (Minutes && Seconds)) ≡ is_time (cols l a (a + 5))
+  whole : (hours_fit && (minutes_fit && seconds_fit)) ≡ is_time (cols l a (a + 5))
   unfolding is_time
   whole = rw (hours, minutes, seconds)
 
-  pub time_hours : Hours ≡ false → false ≡ is_time (cols l a (a + 5))
+  pub time_hours : hours_fit ≡ false → false ≡ is_time (cols l a (a + 5))
   time_hours e = (rw e) ∙ whole
 
-  pub time_minutes : Hours ≡ true → Minutes ≡ false → false ≡ is_time (cols l a (a + 5))
+  pub time_minutes : hours_fit ≡ true → minutes_fit ≡ false → false ≡ is_time (cols l a (a + 5))
   time_minutes d e = (rw (d, e)) ∙ whole
 
-  pub time_seconds : Hours ≡ true → Minutes ≡ true → Seconds ≡ is_time (cols l a (a + 5))
+  pub time_seconds : hours_fit ≡ true → minutes_fit ≡ true → seconds_fit ≡ is_time (cols l a (a + 5))
   time_seconds d e = (rw (d, e)) ∙ whole
 
   -- the two columns of a code

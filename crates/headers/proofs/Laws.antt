@@ -91,15 +91,15 @@ module _ (i k c : ℕ) (l m : List ℕ) (u : length l ≡ 80) (w : length m ≡ 
       (rw (drop_of_length-le l a, drop_of_length-le m b)) ∙ e
 
   module _ (h : c < 80) where
-    abbrev Here : Plan → Plan
-    Here more = need (eqb (get_or l c 0) (get_or m c 0)) (№ 9 i (k + 1) (c + 1)) before more
+    abbrev here : Plan → Plan
+    here more = need (eqb (get_or l c 0) (get_or m c 0)) (№ 9 i (k + 1) (c + 1)) before more
 
-    step : run (Here (same_columns i k (c + 1 + 1) (drop (c + 1) l) (drop (c + 1) m))) ≡ X
+    step : run (here (same_columns i k (c + 1 + 1) (drop (c + 1) l) (drop (c + 1) m))) ≡ X
     unfolding same_columns
     step =
         let a : c < length l = omega arith in
         let b : c < length m = omega arith in
-        ap₂ (λ (n j : ℕ). run (Here (same_columns i k n (drop j l) (drop j m)))) (add-one (c + 1)) (add-one c)
+        ap₂ (λ (n j : ℕ). run (here (same_columns i k n (drop j l) (drop j m)))) (add-one (c + 1)) (add-one c)
         ∙ (rw (drop-cons l c 0 a, drop-cons m c 0 b)) ∙ e
 
     pub columns_stop : (get_or l c 0 ≡ get_or m c 0 → ⊥) → refused (№ 9 i (k + 1) (c + 1)) ≡ X

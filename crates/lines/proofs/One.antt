@@ -26,11 +26,11 @@ use Rattle.lines.specs.contracts.line_count as line_count
 use Rattle.lines.proofs.line_count.Reads as line_count_reads
 use Rattle.lines.specs.contracts.length_fits as length_fits
 use Rattle.lines.proofs.length_fits.Reads as length_fits_reads
-use Rattle.lines.specs.contracts.line_of as Line-of
+use Rattle.lines.specs.contracts.line_of as LineOf
 use Rattle.lines.proofs.line_of.Reads as line_of_reads
 use Rattle.lines.specs.contracts.own_of as own_of_lem
 use Rattle.lines.proofs.own_of.Reads as own_of_reads
-use Rattle.lines.specs.contracts.char_of as Char-of
+use Rattle.lines.specs.contracts.char_of as CharOf
 use Rattle.lines.proofs.char_of.Reads as char_of_reads
 use Rattle.lines.specs.contracts.page.char_of as page_char_of
 use Rattle.lines.proofs.page.char_of.Reads as page_char_of_reads
@@ -98,13 +98,13 @@ line_count_one κs a v v' w w' = alike
 pub length_fits_one : One length_fits.ended length_fits_reads.Post
 length_fits_one κs a v v' w w' p p' = (verdict_one v v' (p ∙ sym p'), refl)
 
-pub line_of_one : One Line-of.ended line_of_reads.Post
+pub line_of_one : One LineOf.ended line_of_reads.Post
 line_of_one κs a v v' w w' = alike
 
 pub own_of_one : One own_of_lem.ended own_of_reads.Post
 own_of_one κs a v v' w w' = alike
 
-pub char_of_one : One Char-of.ended char_of_reads.Post
+pub char_of_one : One CharOf.ended char_of_reads.Post
 char_of_one κs a v v' w w' = alike
 
 pub page_char_of_one : One page_char_of.ended page_char_of_reads.Post

@@ -17,7 +17,7 @@ use Rattle.rules.specs.Text.{same}
 use Rattle.rules.specs.Codes.{Tables, row, many, three_digits, is_instrument, tables_of, opens, names, named, named_before}
 use Rattle.rules.specs.Codes.{rule24, used_code, code_span, rule25}
 use Rattle.rules.specs.MeetsCodes.{CodeOf, Opens, FirstRecord, NamesCode, Rule24, Breach24, Named, Uses, Rule25, Breach25}
-use Rattle.rules.specs.Refuses.{look, line_by_line, by, used_order}
+use Rattle.rules.specs.Refuses.{look, line_by_line, By, used_order}
 use Rattle.rules.proofs.Tests.{says, and_is, eqb_is, pick_is, same_is, some_is}
 use Rattle.rules.proofs.Contrary.{contrary, not_every, not_not}
 use Rattle.rules.proofs.Breach.{Met, Broken}
@@ -121,7 +121,7 @@ module _ (r : Sheet) (k : ℕ) where
         let e : (every 3 (λ i. not (named_before r k (suc i))) ≡ true) ↔ ((i : ℕ) → i < 3 → Twice (suc i) → ⊥) = simp (says, before_is) Iff.rfl in
         (λ m _ i l c n j g o. e.0 m i l (c, n, (j, g, o)), λ f. e.1 (λ i l w. f ((in_header r k).0 h) i l w.0 w.1 w.2.0 w.2.1 w.2.2))
 
-    rule24_breaks : (w : Refusal) → Broken w (rule24 r k) ↔ by (Breach24 r k) (№ 24 file_r (k + 1) r.layout.header_code.first) w
+    rule24_breaks : (w : Refusal) → Broken w (rule24 r k) ↔ By (Breach24 r k) (№ 24 file_r (k + 1) r.layout.header_code.first) w
     unfolding rule24
     rule24_breaks =
         let e = not_every 3 (λ i. not (named_before r k (suc i))) in
@@ -132,7 +132,7 @@ module _ (r : Sheet) (k : ℕ) where
 
 pub tables_same : (r : Sheet)
     → Same (up_to (heads r) (rule24 r))
-    (line_by_line r.count (λ k. look (Rule24 r k) (by (Breach24 r k) (№ 24 file_r (k + 1) r.layout.header_code.first))))
+    (line_by_line r.count (λ k. look (Rule24 r k) (By (Breach24 r k) (№ 24 file_r (k + 1) r.layout.header_code.first))))
 tables_same r =
     same_fewer (heads r) r.count _ _ (heads_few r) (λ k h. same_look (rule24_is r k h) (rule24_breaks r k h))
     (λ k l i. absurd (let h = (in_header r k).1 i in omega arith)) (λ k w b. (in_header r k).1 b.0.0)
@@ -146,7 +146,7 @@ module _ (i : ℕ) (r f : Sheet) where
   unfolding rule25
   rule25_is k = let u = uses_is k in let n = named_is r i (used_code i f k) in (λ m w. n.0 (m (u.1 w)), λ g e. n.1 (g (u.0 e)))
 
-  rule25_breaks : (k : ℕ) (w : Refusal) → Broken w (rule25 i r f k) ↔ by (Breach25 i r f k) (№ 25 i (k + 1) (code_span f.layout i).first) w
+  rule25_breaks : (k : ℕ) (w : Refusal) → Broken w (rule25 i r f k) ↔ By (Breach25 i r f k) (№ 25 i (k + 1) (code_span f.layout i).first) w
   unfolding rule25
   rule25_breaks k = when_breaks _ _ _ (uses_is k) (contrary (named_is r i (used_code i f k)))
 

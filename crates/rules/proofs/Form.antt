@@ -21,7 +21,7 @@ use Rattle.rules.specs.Form.{rule4, rule5, rule6, fields_fit}
 use Rattle.rules.specs.MeetsFields.{Reads}
 use Rattle.rules.specs.MeetsForm.{Header, Marker, Data, Point, Rule4, Breach4, Checked, FieldsRead, FirstOf, Rule5, Breach5}
 use Rattle.rules.specs.MeetsForm.{Counted, Miscounted}
-use Rattle.rules.specs.Refuses.{by, in_column}
+use Rattle.rules.specs.Refuses.{By, InColumn}
 use Rattle.rules.proofs.Tests.{says, clash, and_is, not_is, yes_no, eqb_is, leb_is}
 use Rattle.rules.proofs.Contrary.{contrary, not_leb, not_pick, not_every}
 use Rattle.rules.proofs.Breach.{Met, Broken}
@@ -48,12 +48,12 @@ unfolding is_point
 point_is f k = simp (and_is, not_is, data_is, marker_is) Iff.rfl
 
 -- one test, and one where another passes
-pub need_breaks : (t : Bool) (v : Refusal) {B : Type 0} → (t ≡ true → ⊥) ↔ B → (w : Refusal) → Broken w (need t v) ↔ by B v w
+pub need_breaks : (t : Bool) (v : Refusal) {B : Type 0} → (t ≡ true → ⊥) ↔ B → (w : Refusal) → Broken w (need t v) ↔ By B v w
 unfolding Broken
 need_breaks t v e w = (λ b. (e.0 b.0, b.1), λ b. (e.1 b.0, b.1))
 
 pub when_breaks : (s t : Bool) (v : Refusal) {A B : Type 0} → (s ≡ true) ↔ A → (t ≡ true → ⊥) ↔ B
-    → (w : Refusal) → Broken w (when s (need t v)) ↔ by (A × B) v w
+    → (w : Refusal) → Broken w (when s (need t v)) ↔ By (A × B) v w
 unfolding Broken
 when_breaks s t v d e w = (λ b. ((d.0 b.0, e.0 b.1.0), b.1.1), λ b. (d.1 b.0.0, (e.1 b.0.1, b.1)))
 
@@ -62,7 +62,7 @@ pub rule4_is : (i : ℕ) (f : Sheet) (k : ℕ) → Met (rule4 i f k) ↔ Rule4 i
 unfolding rule4
 rule4_is i f k = simp (says, header_is) Iff.rfl
 
-pub rule4_breaks : (i : ℕ) (f : Sheet) (k : ℕ) (w : Refusal) → Broken w (rule4 i f k) ↔ by (Breach4 i f k) (№ 4 i (k + 1) letter_column) w
+pub rule4_breaks : (i : ℕ) (f : Sheet) (k : ℕ) (w : Refusal) → Broken w (rule4 i f k) ↔ By (Breach4 i f k) (№ 4 i (k + 1) letter_column) w
 unfolding rule4
 rule4_breaks i f k =
     let l = f.row k in
@@ -110,7 +110,7 @@ module _ (i k : ℕ) (m : Bool) (M : Type 0) (e : (m ≡ true) ↔ M) (l : List 
   none_first [] u right q = let z : ◌≡◌ {A = ℕ} 0 1 = cc in omega arith
   none_first (y ∷ left) u right q = let z : ◌≡◌ {A = ℕ} 0 1 = cc in omega arith
 
-  pub fields_break : (ws : List Row) (w : Refusal) → Broken w (fields_fit i k m l ws) ↔ in_column (FirstOf M l ws) (№ 5 i (k + 1)) w
+  pub fields_break : (ws : List Row) (w : Refusal) → Broken w (fields_fit i k m l ws) ↔ InColumn (FirstOf M l ws) (№ 5 i (k + 1)) w
   unfolding fields_fit Broken
   fields_break [] w = (λ b. absurd b, λ b. absurd (none_first b.1.0 b.1.1 b.1.2 b.1.3))
   fields_break (v ∷ vs) w =
@@ -156,7 +156,7 @@ rule5_is i L k l =
     Iff.rfl
 
 pub rule5_breaks : (i : ℕ) (L : Layout) (k : ℕ) (l : List ℕ) (w : Refusal)
-    → Broken w (rule5 i L k l) ↔ in_column (Breach5 i L l) (№ 5 i (k + 1)) w
+    → Broken w (rule5 i L k l) ↔ InColumn (Breach5 i L l) (№ 5 i (k + 1)) w
 unfolding rule5 Broken
 rule5_breaks i L k l w =
     let head = fields_break i k false ⊥ never l (header_rows L) w in
@@ -193,12 +193,12 @@ rule6_is L k q = simp says Iff.rfl
 
 -- one test more before others, each with its column
 module _ (t : Bool) {T F : Type 0} (y : (t ≡ true) ↔ T) (n : (t ≡ true → ⊥) ↔ F) (a : ℕ) (g : ℕ → Refusal) where
-  pub last_breaks : (w : Refusal) → Broken w (need t (g a)) ↔ in_column (λ c. F × (a ≡ c)) g w
+  pub last_breaks : (w : Refusal) → Broken w (need t (g a)) ↔ InColumn (λ c. F × (a ≡ c)) g w
   unfolding Broken
   last_breaks w = (λ b. (a, (n.0 b.0, refl), b.1), λ b. (n.1 b.1.0, ap g b.1.1 ∙ b.2))
 
-  pub next_breaks : (p : Plan) (N : ℕ → Type 0) → ((w : Refusal) → Broken w p ↔ in_column N g w)
-      → (w : Refusal) → Broken w (need t (g a) before p) ↔ in_column (λ c. (F × (a ≡ c)) ⊎ (T × N c)) g w
+  pub next_breaks : (p : Plan) (N : ℕ → Type 0) → ((w : Refusal) → Broken w p ↔ InColumn N g w)
+      → (w : Refusal) → Broken w (need t (g a) before p) ↔ InColumn (λ c. (F × (a ≡ c)) ⊎ (T × N c)) g w
   unfolding Broken
   next_breaks p N e w = (
     λ b.
@@ -208,7 +208,7 @@ module _ (t : Bool) {T F : Type 0} (y : (t ≡ true) ↔ T) (n : (t ≡ true →
   )
 
 pub rule6_breaks : (L : Layout) (k : ℕ) (q : Reach) (w : Refusal)
-    → Broken w (rule6 L k q) ↔ in_column (Miscounted L q) (№ 6 file_x (k + 1)) w
+    → Broken w (rule6 L k q) ↔ InColumn (Miscounted L q) (№ 6 file_x (k + 1)) w
 unfolding rule6
 rule6_breaks L k q =
     let g : ℕ → Refusal = № 6 file_x (k + 1) in

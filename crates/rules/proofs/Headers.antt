@@ -18,7 +18,7 @@ use Rattle.rules.specs.Lines.{is_data, heads}
 use Rattle.rules.specs.Headers.{is_type, projection, rule7, rule8, rule9, same_columns}
 use Rattle.rules.specs.MeetsForm.{Data}
 use Rattle.rules.specs.MeetsHeaders.{InHeader, Heads, OfType, Projected, Names, Rule7, Breach7, Rule8, Breach8, Parts, Differ, Rule9, Breach9}
-use Rattle.rules.specs.Refuses.{by, in_column}
+use Rattle.rules.specs.Refuses.{By, InColumn}
 use Rattle.rules.proofs.Tests.{says, clash, same_is, yes_no}
 use Rattle.rules.proofs.Contrary.{not_and, not_not, not_every}
 use Rattle.rules.proofs.Least.{least_is, least_first, least_none, least_below}
@@ -79,7 +79,7 @@ pub rule7_is : (r : Sheet) → Met (rule7 r) ↔ Rule7 r
 unfolding rule7
 rule7_is r = simp (says, type_is, in_header) Iff.rfl
 
-pub rule7_breaks : (r : Sheet) (w : Refusal) → Broken w (rule7 r) ↔ ((h : ℕ) × Heads r h × by (Breach7 r) (№ 7 file_r (h + 1) 0) w)
+pub rule7_breaks : (r : Sheet) (w : Refusal) → Broken w (rule7 r) ↔ ((h : ℕ) × Heads r h × By (Breach7 r) (№ 7 file_r (h + 1) 0) w)
 unfolding rule7 Broken
 rule7_breaks r w =
     let e = not_every 21 (λ t. some (heads r) (λ k. is_type r.layout t (r.row k))) in (
@@ -124,7 +124,7 @@ rule8_is r k h =
     (λ m i o. n.0 (m (t.1 o)), λ g e. n.1 (g ((in_header r k).0 h) (t.0 e)))
 
 pub rule8_breaks : (r : Sheet) (k : ℕ) → k < heads r → (w : Refusal)
-    → Broken w (rule8 r k) ↔ by (Breach8 r k) (№ 8 file_r (k + 1) r.layout.header_text.first) w
+    → Broken w (rule8 r k) ↔ By (Breach8 r k) (№ 8 file_r (k + 1) r.layout.header_text.first) w
 unfolding rule8 Broken
 rule8_breaks r k h w =
     let t = type_is r.layout 18 (r.row k) in
@@ -221,7 +221,7 @@ rule9_is i r f = (
 )
 
 pub rule9_breaks : (i : ℕ) (r f : Sheet) (w : Refusal)
-    → Broken w (rule9 i r f) ↔ ((k : ℕ) × in_column (Breach9 r f k) (№ 9 i (k + 1)) w)
+    → Broken w (rule9 i r f) ↔ ((k : ℕ) × InColumn (Breach9 r f k) (№ 9 i (k + 1)) w)
 unfolding rule9 Broken
 rule9_breaks i r f w = (λ b. ⊎_elim differs ends b, λ b. back b.0 b.1.0 b.1.1 b.1.2)
   where
@@ -232,7 +232,7 @@ rule9_breaks i r f w = (λ b. ⊎_elim differs ends b, λ b. back b.0 b.1.0 b.1.
     rows k = (λ m j h. (columns_are i j 1 _ _).0 (m j h), λ e j h. (columns_are i j 1 _ _).1 (e j h))
 
     Said : Type 0
-    Said = (k : ℕ) × in_column (Breach9 r f k) (№ 9 i (k + 1)) w
+    Said = (k : ℕ) × InColumn (Breach9 r f k) (№ 9 i (k + 1)) w
 
     differs : (k : ℕ) × (k < n) × ((j : ℕ) → j < k → Met (same_columns i j 1 (r.row j) (f.row j))) × Broken w (same_columns i k 1 (r.row k) (f.row k))
         → Said

@@ -22,7 +22,7 @@ use Rattle.rules.specs.MeetsCover.{Covers}
 use Rattle.rules.specs.MeetsSet.{Earlier, At, PointAt, Killed, Shot, Receiver, OfRecord, Mates, SameShot, Rule10, Rule11, Rule12, Rule13, Rule15}
 use Rattle.rules.specs.MeetsSet.{Rule16, Rule17, Rule19, Breach10, Breach11, Breach12, Breach13, Breach15, Breach16, Breach17}
 use Rattle.rules.specs.MeetsSet.{Breach19}
-use Rattle.rules.specs.Refuses.{by}
+use Rattle.rules.specs.Refuses.{By}
 use Rattle.rules.proofs.Tests.{says, clash, and_is, or_is, eqb_is, ltb_is}
 use Rattle.rules.proofs.Contrary.{fails, not_and}
 use Rattle.rules.proofs.Breach.{Met, Broken}
@@ -47,7 +47,7 @@ pub rule10_is : (r : Sheet) → Met (up_to r.count (rule10 r)) ↔ ((k : ℕ) �
 rule10_is r = (λ m k h. (rule10_at r k).0 (m k h), λ e k h. (rule10_at r k).1 (e k h))
 
 pub rule10_breaks : (r : Sheet) (k : ℕ) (w : Refusal)
-    → Broken w (rule10 r k) ↔ by (Breach10 r k) (№ 10 file_r (k + 1) r.layout.name.first) w
+    → Broken w (rule10 r k) ↔ By (Breach10 r k) (№ 10 file_r (k + 1) r.layout.name.first) w
 unfolding rule10
 rule10_breaks r k = when_breaks _ _ _ (point_is r k) (simp (fails, point_is, above_is) Iff.rfl)
 
@@ -69,7 +69,7 @@ unfolding rule11
 rule11_is s k = simp (says, point_is, earlier_is) Iff.rfl
 
 pub rule11_breaks : (s : Sheet) (k : ℕ) (w : Refusal)
-    → Broken w (rule11 s k) ↔ by (Breach11 s k) (№ 11 file_s (k + 1) s.layout.day.first) w
+    → Broken w (rule11 s k) ↔ By (Breach11 s k) (№ 11 file_s (k + 1) s.layout.day.first) w
 unfolding rule11
 rule11_breaks s k = when_breaks _ _ _ (point_is s k) (simp (fails, point_is, earlier_is) Iff.rfl)
 
@@ -79,7 +79,7 @@ unfolding rule12 same_point
 rule12_is s k = simp (says, point_is, at_is) Iff.rfl
 
 pub rule12_breaks : (s : Sheet) (k : ℕ) (w : Refusal)
-    → Broken w (rule12 s k) ↔ by (Breach12 s k) (№ 12 file_s (k + 1) s.layout.name.first) w
+    → Broken w (rule12 s k) ↔ By (Breach12 s k) (№ 12 file_s (k + 1) s.layout.name.first) w
 unfolding rule12 same_point
 rule12_breaks s k = when_breaks _ _ _ (point_is s k) (simp (fails, point_is, at_is) Iff.rfl)
 
@@ -121,7 +121,7 @@ unfolding rule15 names
 rule15_is s x k = simp (says, live_is, data_is, at_is) Iff.rfl
 
 pub rule15_breaks : (s x : Sheet) (k : ℕ) (w : Refusal)
-    → Broken w (rule15 s x k) ↔ by (Breach15 s x k) (№ 15 file_s (k + 1) letter_column) w
+    → Broken w (rule15 s x k) ↔ By (Breach15 s x k) (№ 15 file_s (k + 1) letter_column) w
 unfolding rule15 names
 rule15_breaks s x k = when_breaks _ _ _ (live_is s k) (simp (fails, and_is, data_is, at_is) Iff.rfl)
 

@@ -14,7 +14,7 @@ use Rattle.rules.specs.Sheet.{Sheet, all_lines}
 use Rattle.rules.specs.Form.{ending, rule29, stray_from, stray, rule3}
 use Rattle.rules.specs.MeetsForm.{Taken, Rule3, Breach3}
 use Rattle.rules.specs.MeetsForm.{FirstEnd, NoEnd, Rule29, Breach29}
-use Rattle.rules.specs.Refuses.{by, in_column}
+use Rattle.rules.specs.Refuses.{By, InColumn}
 use Rattle.rules.proofs.Tests.{yes_no, pick_is, eqb_is}
 use Rattle.rules.proofs.Contrary.{contrary}
 use Rattle.rules.proofs.Least.{least_is, least_first, least_none}
@@ -46,7 +46,7 @@ module _ (i : ℕ) (f : Sheet) where
         (λ w. let z = ending_none w.0 in let c = w.1 in omega arith) r),
   )
 
-  pub rule29_breaks : (w : Refusal) → Broken w (rule29 i f) ↔ ((l : ℕ) × by (Breach29 f l) (№ 29 i l 0) w)
+  pub rule29_breaks : (w : Refusal) → Broken w (rule29 i f) ↔ ((l : ℕ) × By (Breach29 f l) (№ 29 i l 0) w)
   unfolding rule29 Broken
   rule29_breaks w =
       let n = contrary (eqb_is (ending f + f.closing) (all_lines f)) in
@@ -165,7 +165,7 @@ pub rule3_is : (i : ℕ) (f : Sheet) (k : ℕ) → Met (rule3 i f k) ↔ Rule3 f
 unfolding rule3
 rule3_is i f k = Iff.trans (eqb_is (stray f k) 0) (clean_stray f k)
 
-pub rule3_breaks : (i : ℕ) (f : Sheet) (k : ℕ) (w : Refusal) → Broken w (rule3 i f k) ↔ in_column (Breach3 f k) (№ 3 i (k + 1)) w
+pub rule3_breaks : (i : ℕ) (f : Sheet) (k : ℕ) (w : Refusal) → Broken w (rule3 i f k) ↔ InColumn (Breach3 f k) (№ 3 i (k + 1)) w
 unfolding rule3 stray Broken
 rule3_breaks i f k w =
     let l = f.raw k in

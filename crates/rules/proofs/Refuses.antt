@@ -20,7 +20,7 @@ use Rattle.rules.specs.Check.{relation_fits, rules}
 use Rattle.rules.specs.MeetsForm.{Data, Relates, Rule6, Breach6}
 use Rattle.rules.specs.MeetsHeaders.{Rule8, Breach8}
 use Rattle.rules.specs.MeetsSet.{Shot, Rule12, Rule13, Rule14, Breach14}
-use Rattle.rules.specs.Refuses.{look, line_by_line, by, in_column, line_order, form_order, header_order, shot_order, related}
+use Rattle.rules.specs.Refuses.{look, line_by_line, By, InColumn, line_order, form_order, header_order, shot_order, related}
 use Rattle.rules.specs.Refuses.{codes_order, relation_order, order}
 use Rattle.rules.proofs.Tests.{says, eqb_is, leb_is}
 use Rattle.rules.proofs.Contrary.{contrary, not_leb, fails}
@@ -49,7 +49,7 @@ module _ (i : ℕ) (f : Sheet) where
   unfolding six reach_at
   six_is k = let d = relates_is k in let b = rule6_is _ k _ in (λ m z. b.0 (m (d.1 z)), λ g z. b.1 (g (d.0 z)))
 
-  six_breaks : (k : ℕ) (w : Refusal) → Broken w (six k) ↔ in_column (Breach6 i f k) (№ 6 file_x (k + 1)) w
+  six_breaks : (k : ℕ) (w : Refusal) → Broken w (six k) ↔ InColumn (Breach6 i f k) (№ 6 file_x (k + 1)) w
   unfolding six reach_at Broken
   six_breaks k w =
       let d = relates_is k in
@@ -191,7 +191,7 @@ headers_same i r f = same_look (rule9_is i r f) (rule9_breaks i r f)
 
 projections_same : (r : Sheet)
     → Same (up_to (heads r) (rule8 r))
-    (line_by_line r.count (λ k. look (Rule8 r k) (by (Breach8 r k) (№ 8 file_r (k + 1) r.layout.header_text.first))))
+    (line_by_line r.count (λ k. look (Rule8 r k) (By (Breach8 r k) (№ 8 file_r (k + 1) r.layout.header_text.first))))
 projections_same r =
     same_fewer (heads r) r.count _ _ (heads_few r) (λ k h. same_look (rule8_is r k h) (rule8_breaks r k h))
     (λ k l i. absurd (let h = (in_header r k).1 i in omega arith)) (λ k w b. (in_header r k).1 b.0.0)

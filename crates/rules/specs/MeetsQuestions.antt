@@ -32,7 +32,7 @@ use Rattle.rules.specs.MeetsCodes.{CodeOf, NamesCode, Named}
 use Rattle.rules.specs.MeetsDisc.{Printable}
 use Rattle.rules.specs.MeetsCover.{Carries, Reached}
 use Rattle.rules.specs.MeetsSet.{OfRecord}
-use Rattle.rules.specs.Refuses.{Order, look, ◌then◌, by, form_order, order}
+use Rattle.rules.specs.Refuses.{Order, look, ◌then◌, By, form_order, order}
 
 -- 20: "tape not 6 columns of bytes 32-126 starting with a non-blank, record above 9999, channel or R line not 1-9999, component not 1-9"
 abbrev pub Asked : Layout → List ℕ → ℕ → Type 0
@@ -103,7 +103,7 @@ NamedIn r i c l =
     ((k : ℕ) × (k + 1 ≡ l) × InHeader r k × NamesCode r.layout i c (r.row k)) ⊎ ((l ≡ 0) × (Named r i c → ⊥))
 
 abbrev pub asking : Type 0 → Type 0 → Order → Order
-asking A U o = look A (by U (№ 20 0 0 0)) then o
+asking A U o = look A (By U (№ 20 0 0 0)) then o
 
 abbrev pub file_order : ℕ → Sheet → Order
 file_order b f = asking (AskedKind b) (AskedKind b → ⊥) (form_order (kind_of b) f)
@@ -119,7 +119,7 @@ way_back_order r s x t n j m =
 abbrev pub spread_order : Sheet → Sheet → Sheet → List ℕ → ℕ → ℕ → ℕ → Order
 spread_order r s x t n a b =
     asking (Asked x.layout t n) (Unasked x.layout t n)
-    (order r s x then look (Room x t n a b) (by (Short x t n a b) (№ 21 0 0 0)))
+    (order r s x then look (Room x t n a b) (By (Short x t n a b) (№ 21 0 0 0)))
 
 abbrev pub table_order : Sheet → Sheet → Sheet → ℕ → List ℕ → Order
 table_order r s x b c = asking (AskedCode b c) (AskedCode b c → ⊥) (order r s x)

@@ -1,7 +1,7 @@
 -- "Refusal numbers, in the order they are looked for", in words: each rule with what it says, what it is to break it, and the place.
 --   look R B           = one rule: R is what it says, B w that it is broken and w is the refusal
---   by B v             = B, and the refusal is v
---   in_column B v       = B of a column, and the refusal is v of that column
+--   By B v             = B, and the refusal is v
+--   InColumn B v       = B of a column, and the refusal is v of that column
 --   o then p           = o is looked for, then p
 --   line_by_line n o     = o 0, then o 1, .. then o (n - 1)
 --   Kept o             = each rule of it is met
@@ -39,46 +39,46 @@ First (look R B) w = B w
 First (o then p) w = First o w ⊎ (Kept o × First p w)
 First (line_by_line n o) w = (k : ℕ) × (k < n) × ((j : ℕ) → j < k → Kept (o j)) × First (o k) w
 
-abbrev pub by : Type 0 → Refusal → Refusal → Type 0
-by B v w = B × (v ≡ w)
+abbrev pub By : Type 0 → Refusal → Refusal → Type 0
+By B v w = B × (v ≡ w)
 
-abbrev pub in_column : (ℕ → Type 0) → (ℕ → Refusal) → Refusal → Type 0
-in_column B v w = (c : ℕ) × B c × (v c ≡ w)
+abbrev pub InColumn : (ℕ → Type 0) → (ℕ → Refusal) → Refusal → Type 0
+InColumn B v w = (c : ℕ) × B c × (v c ≡ w)
 
 abbrev pub line_order : ℕ → Sheet → ℕ → Order
 line_order i f k =
-    look (Rule3 f k) (in_column (Breach3 f k) (№ 3 i (k + 1)))
-    then look (Rule4 i f k) (by (Breach4 i f k) (№ 4 i (k + 1) letter_column))
-    then look (Rule5 i f.layout (f.row k)) (in_column (Breach5 i f.layout (f.row k)) (№ 5 i (k + 1)))
-    then look (Rule6 i f k) (in_column (Breach6 i f k) (№ 6 file_x (k + 1)))
+    look (Rule3 f k) (InColumn (Breach3 f k) (№ 3 i (k + 1)))
+    then look (Rule4 i f k) (By (Breach4 i f k) (№ 4 i (k + 1) letter_column))
+    then look (Rule5 i f.layout (f.row k)) (InColumn (Breach5 i f.layout (f.row k)) (№ 5 i (k + 1)))
+    then look (Rule6 i f k) (InColumn (Breach6 i f k) (№ 6 file_x (k + 1)))
 
 abbrev pub form_order : ℕ → Sheet → Order
 form_order i f =
-    look (Rule1 f) (by (Breach1 f) (№ 1 i (min (all_lines f + 1) (most_lines + 1)) 0))
-    then look (Rule2 f) (by (Breach2 f) (№ 2 i (most_lines + 1) 0))
-    then look (Rule29 f) (λ w. (l : ℕ) × by (Breach29 f l) (№ 29 i l 0) w)
+    look (Rule1 f) (By (Breach1 f) (№ 1 i (min (all_lines f + 1) (most_lines + 1)) 0))
+    then look (Rule2 f) (By (Breach2 f) (№ 2 i (most_lines + 1) 0))
+    then look (Rule29 f) (λ w. (l : ℕ) × By (Breach29 f l) (№ 29 i l 0) w)
     then line_by_line f.count (line_order i f)
 
 abbrev pub header_order : ℕ → Sheet → Sheet → Order
-header_order i r f = look (Rule9 r f) (λ w. (k : ℕ) × in_column (Breach9 r f k) (№ 9 i (k + 1)) w)
+header_order i r f = look (Rule9 r f) (λ w. (k : ℕ) × InColumn (Breach9 r f k) (№ 9 i (k + 1)) w)
 
 -- "24 first, then 25 over R, S, X"
 abbrev pub used_order : ℕ → Sheet → Sheet → Order
 used_order i r f =
-    line_by_line f.count (λ k. look (Rule25 i r f k) (by (Breach25 i r f k) (№ 25 i (k + 1) (code_span f.layout i).first)))
+    line_by_line f.count (λ k. look (Rule25 i r f k) (By (Breach25 i r f k) (№ 25 i (k + 1) (code_span f.layout i).first)))
 
 abbrev pub codes_order : Sheet → Sheet → Sheet → Order
 codes_order r s x =
-    line_by_line r.count (λ k. look (Rule24 r k) (by (Breach24 r k) (№ 24 file_r (k + 1) r.layout.header_code.first)))
+    line_by_line r.count (λ k. look (Rule24 r k) (By (Breach24 r k) (№ 24 file_r (k + 1) r.layout.header_code.first)))
     then used_order file_r r r then used_order file_s r s then used_order file_x r x
 
 abbrev pub shot_order : Sheet → ℕ → Order
 shot_order s k =
-    look (Rule11 s k) (by (Breach11 s k) (№ 11 file_s (k + 1) s.layout.day.first))
-    then look (Rule12 s k) (by (Breach12 s k) (№ 12 file_s (k + 1) s.layout.name.first))
+    look (Rule11 s k) (By (Breach11 s k) (№ 11 file_s (k + 1) s.layout.day.first))
+    then look (Rule12 s k) (By (Breach12 s k) (№ 12 file_s (k + 1) s.layout.name.first))
 
 abbrev pub related : Sheet → ℕ → Type 0 → Type 0 → Refusal → Order
-related x k R B v = look (Data x k → R) (by (Data x k × B) v)
+related x k R B v = look (Data x k → R) (By (Data x k × B) v)
 
 abbrev pub relation_order : Sheet → Sheet → Sheet → ℕ → Order
 relation_order r s x k =
@@ -92,14 +92,14 @@ relation_order r s x k =
 abbrev pub order : Sheet → Sheet → Sheet → Order
 order r s x =
     form_order file_r r then form_order file_s s then form_order file_x x
-    then look (Rule7 r) (λ w. (h : ℕ) × Heads r h × by (Breach7 r) (№ 7 file_r (h + 1) 0) w)
-    then line_by_line r.count (λ k. look (Rule8 r k) (by (Breach8 r k) (№ 8 file_r (k + 1) r.layout.header_text.first)))
+    then look (Rule7 r) (λ w. (h : ℕ) × Heads r h × By (Breach7 r) (№ 7 file_r (h + 1) 0) w)
+    then line_by_line r.count (λ k. look (Rule8 r k) (By (Breach8 r k) (№ 8 file_r (k + 1) r.layout.header_text.first)))
     then header_order file_s r s then header_order file_x r x
     then codes_order r s x
-    then line_by_line r.count (λ k. look (Rule10 r k) (by (Breach10 r k) (№ 10 file_r (k + 1) r.layout.name.first)))
+    then line_by_line r.count (λ k. look (Rule10 r k) (By (Breach10 r k) (№ 10 file_r (k + 1) r.layout.name.first)))
     then line_by_line s.count (shot_order s)
     then line_by_line x.count (relation_order r s x)
-    then line_by_line s.count (λ k. look (Rule15 s x k) (by (Breach15 s x k) (№ 15 file_s (k + 1) letter_column)))
+    then line_by_line s.count (λ k. look (Rule15 s x k) (By (Breach15 s x k) (№ 15 file_s (k + 1) letter_column)))
 
 abbrev pub Refuses : Sheet → Sheet → Sheet → Refusal → Type 0
 Refuses r s x w = First (order r s x) w

@@ -32,8 +32,8 @@ byte_one κs a v v' w w' p p' = (adds_ends p p', both refl (both (adds_one p p')
 pub fill_one : One fill.ended fill_reads.Post
 fill_one κs a v v' w w' p p' = (adds_ends p p', both refl (both refl (both (adds_one p p') refl)))
 
-pub add-one : One add.ended add_reads.Post
-add-one κs a v v' w w' p p' = (adds_ends p p', both refl (both (adds_one p p') refl))
+pub add_one : One add.ended add_reads.Post
+add_one κs a v v' w w' p p' = (adds_ends p p', both refl (both (adds_one p p') refl))
 
 pub digits_one : One digits.ended digits_reads.Post
 digits_one κs a v v' w w' p p' = (adds_ends p p', both refl (both (adds_one p p') refl))

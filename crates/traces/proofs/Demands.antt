@@ -110,27 +110,27 @@ asked_back : (q : Record) (j m : ℕ) (v : Answer) → AskedBack q j m v → pap
 asked_back q j m v (by_channel κs a w p e f g) = moved_back _ q _ j _ m v p e f g
 
 module _ (q : Record) where
-  abbrev R : Sheet
-  R = sheet_of q.how q.receivers
+  abbrev receiver_sheet : Sheet
+  receiver_sheet = sheet_of q.how q.receivers
 
-  abbrev S : Sheet
-  S = sheet_of q.how q.shots
+  abbrev shot_sheet : Sheet
+  shot_sheet = sheet_of q.how q.shots
 
-  abbrev X : Sheet
-  X = sheet_of q.how q.relations
+  abbrev relation_sheet : Sheet
+  relation_sheet = sheet_of q.how q.relations
 
-  able : Meets R S X → Askable X
+  able : Meets receiver_sheet shot_sheet relation_sheet → Askable relation_sheet
   able = asks q.how q.receivers q.shots q.relations
 
   -- "Within a tape and record two channels never share them."
   pub never_shared : (c d l m : ℕ) (y z : Bool) → LookedUp q c (Trace l m y) → LookedUp q d (Trace l m z) → c ≡ d
   never_shared c d l m y z a b =
-      told.never_shared R S X able q.tape q.number c d l m y z _ _ (looked_up q c _ a) (looked_up q d _ b) refl refl
+      told.never_shared receiver_sheet shot_sheet relation_sheet able q.tape q.number c d l m y z _ _ (looked_up q c _ a) (looked_up q d _ b) refl refl
 
   -- "Asked from the receiver and component the answer is that channel", and the other way round.
   pub there_and_back : (c l m : ℕ) (v u : Answer) → LookedUp q c v → AskedBack q l m u → ((d : Bool) × (v ≡ Trace l m d)) ↔ (u ≡ Channel c)
   there_and_back c l m v u a b =
-      told.forth_and_back R S X able q.tape q.number c l m v u (looked_up q c v a) (asked_back q l m u b)
+      told.forth_and_back receiver_sheet shot_sheet relation_sheet able q.tape q.number c l m v u (looked_up q c v a) (asked_back q l m u b)
 
 -- "Place c-1 takes channel c's R line and component, or 0 and 0 when channel c is not covered, up to the highest covered channel, which is
 -- returned. Later places stay. An absent record returns 0 and writes nothing. All refusals write nothing."
@@ -163,7 +163,7 @@ rows_told κs a v w p =
 
 -- the table and the lookup agree: where the one says h, the place of each channel up to h has the line and component that the other answers
 pub agrees : (read : List ℕ → List ℕ) (q : Record) (d e d' e' : List ℕ) (h : ℕ)
-    → Tabled read (R q) (S q) (X q) q.tape q.number d e (Highest h) d' e' → (c : ℕ) → c < h → (v : Answer) → LookedUp q (c + 1) v
+    → Tabled read (receiver_sheet q) (shot_sheet q) (relation_sheet q) q.tape q.number d e (Highest h) d' e' → (c : ℕ) → c < h → (v : Answer) → LookedUp q (c + 1) v
     → (get_or (read d') c 0 ≡ line_of (paper v)) × (get_or e' c 0 ≡ component_of (paper v))
 agrees read q d e d' e' h t c l v a =
     let f = t.filled h refl in

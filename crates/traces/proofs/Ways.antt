@@ -50,27 +50,27 @@ number_read how r i l n e f = f ∙ (rw (layout_is how r, e))
 -- relation line k and the receiver in line i
 module _ (r x : Sheet) (i k m : ℕ) (wr : ReceiverLine r i) (wx : Known 3 x)
     (alike : r.rank ≡ x.rank) (h : RelationLine x k) (n : ℕ) (en : n ≡ (point_at r i).number) where
-  abbrev Reaches : Bool
-  Reaches = reaches (point_at r i) m (reach_at x k)
+  abbrev reached : Bool
+  reached = reaches (point_at r i) m (reach_at x k)
 
   pub number_small : n < 4294967296
   number_small = let a = point_number 1 r wr.0 i wr.1.0 in omega arith
 
-  pub not_covered : (b : Bool) → b ≡ covers (reach_at x k) n → b ≡ false → false ≡ Reaches
+  pub not_covered : (b : Bool) → b ≡ covers (reach_at x k) n → b ≡ false → false ≡ reached
   not_covered b e z =
       sym (untrue _
       (λ t.
       let w = ((leads_is (point_at r i) m (reach_at x k)).0 t).1.1.0 in
       clash (sym z ∙ e ∙ ap (covers (reach_at x k)) en ∙ (covers_is (reach_at x k) (point_at r i).number).1 w)))
 
-  pub no_component : m < 1 → false ≡ Reaches
+  pub no_component : m < 1 → false ≡ reached
   no_component z = sym (untrue _ (λ t. let w = ((leads_is (point_at r i) m (reach_at x k)).0 t).1.1.1.0 in omega arith))
 
-  pub too_high : (s : ℕ) → s ≡ (reach_at x k).step → s < m → false ≡ Reaches
+  pub too_high : (s : ℕ) → s ≡ (reach_at x k).step → s < m → false ≡ reached
   too_high s e z = sym (untrue _ (λ t. let w = ((leads_is (point_at r i) m (reach_at x k)).0 t).1.1.1.1 in omega arith))
 
   pub by_key : (b : Bool) → b ≡ covers (reach_at x k) n → b ≡ true → 1 ≤ m → (s : ℕ) → s ≡ (reach_at x k).step → m ≤ s → (y : Key)
-      → y ≡ receiver_key x.layout (owned x k) n → (d : Bool) → d ≡ same_key (key_at Receivers r i) y → d ≡ Reaches
+      → y ≡ receiver_key x.layout (owned x k) n → (d : Bool) → d ≡ same_key (key_at Receivers r i) y → d ≡ reached
   by_key b e z o s es u y ey d ed =
       ed ∙ ap (same_key (key_at Receivers r i)) ey
       ∙ receiver_is 1 r wr.0 (λ z. omega arith) i wr.1.0 wr.1.1 x wx alike k h.0 h.1 n number_small

@@ -61,40 +61,40 @@ spell_length k w v o e =
     padded_length 32 w (spelled k w (value_of w v)) (leb-true (length (spelled k w (value_of w v))) w (sym (hold_is k w v o) ∙ p))
 
 module _ (w : Row) (s : sized w.kind w.first w.last ≡ true) (v : Value) (t : Bool) where
-  abbrev W : ℕ
-  W = width_of (row_of w).columns
+  abbrev width : ℕ
+  width = width_of (row_of w).columns
 
-  abbrev T : List ℕ
-  T = spelled (row_of w).kind W (value_of W v)
+  abbrev text : List ℕ
+  text = spelled (row_of w).kind width (value_of width v)
 
-  module _ (q : t ≡ allows (row_of w).kind (value_of W v)) where
-    pub goes_not : t ≡ false → false ≡ goes_into (row_of w).kind W (value_of W v)
+  module _ (q : t ≡ allows (row_of w).kind (value_of width v)) where
+    pub goes_not : t ≡ false → false ≡ goes_into (row_of w).kind width (value_of width v)
     unfolding goes_into
     goes_not e = rw (← q, e)
 
-    module _ (y : t ≡ true) (b : List ℕ) (n : ℕ) (f : Starts b T n) (k : ℕ) (e : k ≡ W) where
-      goes : goes_into (row_of w).kind W (value_of W v) ≡ leb n k
+    module _ (y : t ≡ true) (b : List ℕ) (n : ℕ) (f : Starts b text n) (k : ℕ) (e : k ≡ width) where
+      goes : goes_into (row_of w).kind width (value_of width v) ≡ leb n k
       unfolding goes_into
       goes =
-          ap₂ ◌&&◌ (sym q ∙ y) (hold_is (row_of w).kind W v (width_any w s))
+          ap₂ ◌&&◌ (sym q ∙ y) (hold_is (row_of w).kind width v (width_any w s))
           ∙ ap₂ leb (sym f.ends) (sym e)
 
-      pub goes_wide : k < n → false ≡ goes_into (row_of w).kind W (value_of W v)
+      pub goes_wide : k < n → false ≡ goes_into (row_of w).kind width (value_of width v)
       goes_wide h = sym (goes ∙ lt-leb n k h)
 
-      pub goes_in : n ≤ k → true ≡ goes_into (row_of w).kind W (value_of W v)
+      pub goes_in : n ≤ k → true ≡ goes_into (row_of w).kind width (value_of width v)
       goes_in h = sym (goes ∙ le-leb n k h)
 
       pub goes_there : n ≤ k → {l l' l'' : List ℕ} {i m : ℕ} → Adds l (w.first - 1) (replicate (k - n) 32) l' i → Adds l' i (take n b) l'' m
-          → Adds l (w.first - 1) (spell (row_of w).kind W (value_of W v)) l'' w.last
+          → Adds l (w.first - 1) (spell (row_of w).kind width (value_of width v)) l'' w.last
       unfolding spell padded
       goes_there h p r =
           let is = sized_is w.kind w.first w.last s in
           let z = then p r in
-          let u : replicate (k - n) 32 ++ take n b ≡ padded 32 W T = same in
+          let u : replicate (k - n) 32 ++ take n b ≡ padded 32 width text = same in
           let g = f.ends in
-          let j = padded_length 32 W T (omega arith) in
+          let j = padded_length 32 width text (omega arith) in
           adds_is z u (omega (arith, z.ends, ap length u))
         where
-          same : replicate (k - n) 32 ++ take n b ≡ padded 32 W T
+          same : replicate (k - n) 32 ++ take n b ≡ padded 32 width text
           same = rw (f.front, e, f.ends)

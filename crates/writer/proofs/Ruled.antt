@@ -91,42 +91,42 @@ narrow false (DecimalNumber n) w hi lo o c e = clash e
 narrow false (Code i) w hi lo o c e = code_narrow i w hi lo (c i refl) e
 
 module _ (w : Row) (s : sized w.kind w.first w.last ≡ true) (v : Value) where
-  abbrev W : ℕ
-  W = width_of (row_of w).columns
+  abbrev width : ℕ
+  width = width_of (row_of w).columns
 
   module _ (hi lo : ℕ) (e : v ≡ Text hi lo) where
-    pub text_narrow : allows (row_of w).kind (value_of W v) ≡ true → Narrow W hi lo
+    pub text_narrow : allows (row_of w).kind (value_of width v) ≡ true → Narrow width hi lo
     unfolding allows
     text_narrow a =
-        narrow w.blank w.kind W hi lo (width_any w s) (width_two w s)
-        (sym (ap (λ (u : Value). allows (row_of w).kind (value_of W u)) e) ∙ a)
+        narrow w.blank w.kind width hi lo (width_any w s) (width_two w s)
+        (sym (ap (λ (u : Value). allows (row_of w).kind (value_of width u)) e) ∙ a)
 
-    pub text_told : (n : ℕ) → n ≡ W → text_of n hi lo ≡ spelled (row_of w).kind W (value_of W v)
+    pub text_told : (n : ℕ) → n ≡ width → text_of n hi lo ≡ spelled (row_of w).kind width (value_of width v)
     unfolding spelled
-    text_told n q = ap (λ (m : ℕ). text_of m hi lo) q ∙ sym (ap (λ (u : Value). spelled (row_of w).kind W (value_of W u)) e)
+    text_told n q = ap (λ (m : ℕ). text_of m hi lo) q ∙ sym (ap (λ (u : Value). spelled (row_of w).kind width (value_of width u)) e)
 
-    pub text_allowed : (t : Bool) → t ≡ allows_text (row_of w).kind (text_of W hi lo) → t ≡ allows (row_of w).kind (value_of W v)
+    pub text_allowed : (t : Bool) → t ≡ allows_text (row_of w).kind (text_of width hi lo) → t ≡ allows (row_of w).kind (value_of width v)
     unfolding allows
-    text_allowed t q = q ∙ sym (ap (λ (u : Value). allows (row_of w).kind (value_of W u)) e)
+    text_allowed t q = q ∙ sym (ap (λ (u : Value). allows (row_of w).kind (value_of width u)) e)
 
   module _ (z : ℤ) (e : v ≡ Number z) where
-    pub number_told : (n : ℕ) → n ≡ W → spelled_as (kind w.kind) n z ≡ spelled (row_of w).kind W (value_of W v)
+    pub number_told : (n : ℕ) → n ≡ width → spelled_as (kind w.kind) n z ≡ spelled (row_of w).kind width (value_of width v)
     unfolding spelled
     number_told n q =
-        ap (λ (m : ℕ). spelled_as (kind w.kind) m z) q ∙ spelled_kept w.blank (kind w.kind) W z
-        ∙ sym (ap (λ (u : Value). spelled (row_of w).kind W (value_of W u)) e)
+        ap (λ (m : ℕ). spelled_as (kind w.kind) m z) q ∙ spelled_kept w.blank (kind w.kind) width z
+        ∙ sym (ap (λ (u : Value). spelled (row_of w).kind width (value_of width u)) e)
 
-    pub number_allowed : (t : Bool) → t ≡ allows_number (kind w.kind) z → t ≡ allows (row_of w).kind (value_of W v)
+    pub number_allowed : (t : Bool) → t ≡ allows_number (kind w.kind) z → t ≡ allows (row_of w).kind (value_of width v)
     unfolding allows
     number_allowed t q =
-        q ∙ number_kept w.blank (kind w.kind) z ∙ sym (ap (λ (u : Value). allows (row_of w).kind (value_of W u)) e)
+        q ∙ number_kept w.blank (kind w.kind) z ∙ sym (ap (λ (u : Value). allows (row_of w).kind (value_of width u)) e)
 
   module _ (e : v ≡ Nothing) where
-    pub nothing_told : (b : List ℕ) → Starts b (spelled (row_of w).kind W (value_of W v)) 0
+    pub nothing_told : (b : List ℕ) → Starts b (spelled (row_of w).kind width (value_of width v)) 0
     unfolding spelled
     nothing_told b = rw e (record { ends = refl; front = refl })
 
-    pub nothing_allowed : w.blank ≡ allows (row_of w).kind (value_of W v)
+    pub nothing_allowed : w.blank ≡ allows (row_of w).kind (value_of width v)
     unfolding allows
     nothing_allowed =
-        nothing_kept w.blank w.kind ∙ sym (ap (λ (u : Value). allows (row_of w).kind (value_of W u)) e)
+        nothing_kept w.blank w.kind ∙ sym (ap (λ (u : Value). allows (row_of w).kind (value_of width u)) e)

@@ -54,22 +54,22 @@ module _ (n : ℕ) (f : SFits w64 (negsuc n)) where
   less_back : to_z w64 (of_z w64 (negsuc 0 -ℤ to_z w64 (of_z w64 (negsuc n)))) ≡ pos n
   less_back = ap (λ (y : ℤ). to_z w64 (of_z w64 y)) less_is ∙ to_z-of_z w64 (pos n) pos_fits
 
-abbrev Less : ℤ → ℤ
-Less z = negsuc 0 -ℤ to_z w64 (of_z w64 z)
+abbrev less_of : ℤ → ℤ
+less_of z = negsuc 0 -ℤ to_z w64 (of_z w64 z)
 
-pub less_fits : (z : ℤ) → SFits w64 z → minus_of z ≡ true → SFits w64 (Less z)
+pub less_fits : (z : ℤ) → SFits w64 z → minus_of z ≡ true → SFits w64 (less_of z)
 less_fits (pos n) f e = clash e
 less_fits (negsuc n) f e = rw (less_is n f) (pos_fits n f)
 
-pub less_casts : (z : ℤ) → SFits w64 z → minus_of z ≡ true → T (non_neg (to_z w64 (of_z w64 (Less z)))) × Fits w64 (nat_abs (to_z w64 (of_z w64 (Less z))))
+pub less_casts : (z : ℤ) → SFits w64 z → minus_of z ≡ true → T (non_neg (to_z w64 (of_z w64 (less_of z)))) × Fits w64 (nat_abs (to_z w64 (of_z w64 (less_of z))))
 less_casts (pos n) f e = clash e
 less_casts (negsuc n) f e = let b = f.sfits in rw (less_back n f) (tt, record { fits = omega arith })
 
-pub less_more : (z : ℤ) → SFits w64 z → minus_of z ≡ true → Fits w64 (nat_abs (to_z w64 (of_z w64 (Less z))) + 1)
+pub less_more : (z : ℤ) → SFits w64 z → minus_of z ≡ true → Fits w64 (nat_abs (to_z w64 (of_z w64 (less_of z))) + 1)
 less_more (pos n) f e = clash e
 less_more (negsuc n) f e = let b = f.sfits in rw (less_back n f) (record { fits = omega arith })
 
-pub less_size : (z : ℤ) → SFits w64 z → minus_of z ≡ true → nat_abs (to_z w64 (of_z w64 (Less z))) + 1 ≡ nat_abs z
+pub less_size : (z : ℤ) → SFits w64 z → minus_of z ≡ true → nat_abs (to_z w64 (of_z w64 (less_of z))) + 1 ≡ nat_abs z
 less_size (pos n) f e = clash e
 less_size (negsuc n) f e = rw (less_back n f) (add-one n)
 

@@ -92,24 +92,24 @@ written false w e v n q l m f o p r =
 
 -- the values of a point, by the kind of its file
 module _ (b i : ℕ) (e : i ≡ kind_of b) (c : List ℕ) (s : PaperState) (xs : ℕ → List PaperValue) where
-  abbrev Goes : Bool
-  Goes = point_goes b c s (xs (kind_of b))
+  abbrev goes : Bool
+  goes = point_goes b c s (xs (kind_of b))
 
-  whole : ((leb 1 i && leb i 2) && (same_state (state_of c) s && writable (point_rows sps93 i) (xs i))) ≡ Goes
+  whole : ((leb 1 i && leb i 2) && (same_state (state_of c) s && writable (point_rows sps93 i) (xs i))) ≡ goes
   whole = ap (λ (k : ℕ). (leb 1 k && leb k 2) && (same_state (state_of c) s && writable (point_rows sps93 k) (xs k))) e
 
-  pub point_low : i < 1 → false ≡ Goes
+  pub point_low : i < 1 → false ≡ goes
   point_low h = (rw (lt-leb 1 i h)) ∙ whole
 
   module _ (o : 1 ≤ i) where
-    pub point_high : 2 < i → false ≡ Goes
+    pub point_high : 2 < i → false ≡ goes
     point_high h = (rw (le-leb 1 i o, lt-leb i 2 h)) ∙ whole
 
     module _ (h : i ≤ 2) (t : Bool) (q : t ≡ same_state (state_of c) s) where
-      pub point_other : t ≡ false → false ≡ Goes
+      pub point_other : t ≡ false → false ≡ goes
       point_other f = (rw (le-leb 1 i o, le-leb i 2 h, ← q, f)) ∙ whole
 
-      pub point_goes_lem : t ≡ true → (u : Bool) → u ≡ writable (point_rows sps93 i) (xs i) → u ≡ Goes
+      pub point_goes_lem : t ≡ true → (u : Bool) → u ≡ writable (point_rows sps93 i) (xs i) → u ≡ goes
       point_goes_lem y u f = f ∙ (rw (le-leb 1 i o, le-leb i 2 h, ← q, y)) ∙ whole
 
 pub point_line_is : (b i : ℕ) → i ≡ kind_of b → (xs : ℕ → List PaperValue) (d : ℕ) → d ≡ letter i → (l : List ℕ) → l ≡ line_of d (point_rows sps93 i) (xs i)

@@ -1,12 +1,11 @@
-/* The calls by which the program looks at, opens and reads files, over those of the C library: the
-   paths that it looks at and opens go to the file CALLS_LOG, a read takes at most CALLS_PIECE
-   bytes, and the read numbered CALLS_FAIL fails. */
+/* The calls by which the program opens and reads, over those of the C library: the paths that it
+   opens go to the file CALLS_LOG, a read takes at most CALLS_PIECE bytes, and the read numbered
+   CALLS_FAIL fails. */
 #define _GNU_SOURCE
 #include <errno.h>
 #include <fcntl.h>
 #include <stdlib.h>
 #include <string.h>
-#include <sys/stat.h>
 #include <sys/syscall.h>
 #include <unistd.h>
 
@@ -16,7 +15,7 @@ static long number(const char *name)
     return text ? atol(text) : 0;
 }
 
-static void tell(const char *path)
+int open(const char *path, int flags, ...)
 {
     const char *log = getenv("CALLS_LOG");
     if (log) {
@@ -25,17 +24,6 @@ static void tell(const char *path)
         syscall(SYS_write, to, "\n", (size_t)1);
         syscall(SYS_close, to);
     }
-}
-
-int statx(int folder, const char *path, int flags, unsigned mask, struct statx *to)
-{
-    tell(path);
-    return (int)syscall(SYS_statx, folder, path, flags, mask, to);
-}
-
-int open(const char *path, int flags, ...)
-{
-    tell(path);
     return (int)syscall(SYS_openat, AT_FDCWD, path, flags, 0);
 }
 

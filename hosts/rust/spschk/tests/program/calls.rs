@@ -32,8 +32,8 @@ fn says(folder: &Folder, variables: &[(&str, usize)]) -> String {
     Folder::line(&mut command)
 }
 
-/// The program asks for the three files in the order R, S, X, and for no other: looks at each to
-/// tell whether it is a FIFO, then opens it to read it.
+/// The program opens the three files in the order R, S, X, and no other: each to tell
+/// whether it is a FIFO, then to read it.
 #[test]
 fn the_three_files_are_opened() {
     let folder = Folder::of("opened", &set_a());
