@@ -5,10 +5,8 @@ ghost use Rattle.texts.specs.Buffer.{over};
 ghost use Rattle.files.specs.Reads.{size_of, rest_of, next as next_of, came as came_of, Follows, Tells, IsRead, path as path_of, Found};
 
 use crate::first;
-use std::fs;
-use std::fs::File;
+use std::fs::{File, OpenOptions};
 use std::io::{Read, Seek};
-use std::os::unix::fs::FileTypeExt;
 use std::rt::Files;
 
 // The most bytes of a path that the system has room for.
@@ -124,24 +122,23 @@ pub fn path_of(text: &[u8]) -> Path
     }
 }
 
-// Whether a FIFO stands at the path: to open one for reading waits for somebody who writes.
+// Whether a FIFO stands at the path. To open one for reading waits for somebody who writes; to open it for both does not, and it has no place
+// that could be sought. A file that may not be written is taken as none.
 fn is_fifo(rt: &impl Files, path: &str) -> bool {
-    match fs::metadata(rt, path) {
-        Ok(about) => about.file_type().is_fifo(),
+    match OpenOptions::new().read(true).write(true).open(rt, path) {
+        Ok(mut file) => file.stream_position().is_err(),
         Err(_) => false,
     }
 }
 
-// Opens a file, where there is one. A FIFO is no file, nor is what has no place in it that could be sought, as a terminal. A path is text.
+// Opens a file, where there is one. A FIFO is no file. A path is text.
 fn open<R: Files>(rt: &R, path: Path) -> Option<R::File> {
     let bytes = path.bytes;
     let name = str::from_utf8(first(path.size, &bytes)).ok()?;
     if is_fifo(rt, name) {
         return None;
     }
-    let mut file = File::open(rt, name).ok()?;
-    file.stream_position().ok()?;
-    Some(file)
+    File::open(rt, name).ok()
 }
 
 // Reads what was opened, and closes it.
