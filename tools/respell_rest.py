@@ -26,7 +26,7 @@ ROWS = [
     ("crates/texts/proofs/One.antt", {"add-one": "add_one"}),
     ("crates/traces/proofs/Demands.antt", {"R": "receiver_sheet", "S": "shot_sheet", "X": "relation_sheet"}),
     ("crates/traces/proofs/Ways.antt", {"Reaches": "reached"}),
-    ("crates/values/proofs/Signed.antt", {"Less": "less_of", "Below": "below_zero"}),
+    ("crates/values/proofs/Signed.antt", {"Less": "less_of", "Below": "reads_below"}),
     ("crates/writer/proofs/Signed.antt", {"Less": "less_of"}),
     ("crates/writer/proofs/Placed.antt", {"W": "width", "T": "text"}),
     ("crates/writer/proofs/Ruled.antt", {"W": "width"}),

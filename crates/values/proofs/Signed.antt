@@ -36,37 +36,37 @@ module _ (n : ℕ) (f : SFits w64 (negsuc n)) where
 abbrev less_of : ℤ → ℤ
 less_of z = negsuc 0 -ℤ to_z w64 (of_z w64 z)
 
-abbrev below_zero : ℤ → Bool
-below_zero z = lt_z (to_z w64 (of_z w64 z)) (pos 0)
+abbrev reads_below : ℤ → Bool
+reads_below z = lt_z (to_z w64 (of_z w64 z)) (pos 0)
 
-not_below_lem : (n : ℕ) → SFits w64 (pos n) → below_zero (pos n) ≡ false
+not_below_lem : (n : ℕ) → SFits w64 (pos n) → reads_below (pos n) ≡ false
 not_below_lem n f = ap (λ (y : ℤ). lt_z y (pos 0)) (to_z-of_z w64 (pos n) f) ∙ below_zero n
 
-is_below : (n : ℕ) → SFits w64 (negsuc n) → below_zero (negsuc n) ≡ true
+is_below : (n : ℕ) → SFits w64 (negsuc n) → reads_below (negsuc n) ≡ true
 is_below n f = ap (λ (y : ℤ). lt_z y (pos 0)) (to_z-of_z w64 (negsuc n) f)
 
-pub less_fits : (z : ℤ) → SFits w64 z → below_zero z ≡ true → SFits w64 (less_of z)
+pub less_fits : (z : ℤ) → SFits w64 z → reads_below z ≡ true → SFits w64 (less_of z)
 less_fits (pos n) f e = clash (sym (not_below_lem n f) ∙ e)
 less_fits (negsuc n) f e = rw (less_is n f) (pos_fits n f)
 
-pub less_casts : (z : ℤ) → SFits w64 z → below_zero z ≡ true → T (non_neg (to_z w64 (of_z w64 (less_of z)))) × Fits w64 (nat_abs (to_z w64 (of_z w64 (less_of z))))
+pub less_casts : (z : ℤ) → SFits w64 z → reads_below z ≡ true → T (non_neg (to_z w64 (of_z w64 (less_of z)))) × Fits w64 (nat_abs (to_z w64 (of_z w64 (less_of z))))
 less_casts (pos n) f e = clash (sym (not_below_lem n f) ∙ e)
 less_casts (negsuc n) f e = let b = f.sfits in rw (less_back n f) (tt, record { fits = omega arith })
 
-pub less_room : (z : ℤ) → SFits w64 z → below_zero z ≡ true → nat_abs (to_z w64 (of_z w64 (less_of z))) ≤ 18446744073709551615
+pub less_room : (z : ℤ) → SFits w64 z → reads_below z ≡ true → nat_abs (to_z w64 (of_z w64 (less_of z))) ≤ 18446744073709551615
 less_room (pos n) f e = clash (sym (not_below_lem n f) ∙ e)
 less_room (negsuc n) f e = let b = f.sfits in rw (less_back n f) (omega arith)
 
-pub less_place : (z : ℤ) → SFits w64 z → below_zero z ≡ true → 18446744073709551615 - nat_abs (to_z w64 (of_z w64 (less_of z))) ≡ as_place z
+pub less_place : (z : ℤ) → SFits w64 z → reads_below z ≡ true → 18446744073709551615 - nat_abs (to_z w64 (of_z w64 (less_of z))) ≡ as_place z
 unfolding as_place
 less_place (pos n) f e = clash (sym (not_below_lem n f) ∙ e)
 less_place (negsuc n) f e = rw (less_back n f)
 
-pub plus_casts : (z : ℤ) → SFits w64 z → below_zero z ≡ false → T (non_neg (to_z w64 (of_z w64 z))) × Fits w64 (nat_abs (to_z w64 (of_z w64 z)))
+pub plus_casts : (z : ℤ) → SFits w64 z → reads_below z ≡ false → T (non_neg (to_z w64 (of_z w64 z))) × Fits w64 (nat_abs (to_z w64 (of_z w64 z)))
 plus_casts (pos n) f e = let b = f.sfits in rw (to_z-of_z w64 (pos n) f) (tt, record { fits = omega arith })
 plus_casts (negsuc n) f e = clash (sym e ∙ is_below n f)
 
-pub plus_place : (z : ℤ) → SFits w64 z → below_zero z ≡ false → nat_abs (to_z w64 (of_z w64 z)) ≡ as_place z
+pub plus_place : (z : ℤ) → SFits w64 z → reads_below z ≡ false → nat_abs (to_z w64 (of_z w64 z)) ≡ as_place z
 unfolding as_place
 plus_place (pos n) f e = rw (to_z-of_z w64 (pos n) f)
 plus_place (negsuc n) f e = clash (sym e ∙ is_below n f)
