@@ -1,6 +1,5 @@
 -- What the code finds when it notes, looks and reads a line, in the definitions' words.
 --   note_beyond, note_again, note_new, noted_length = a place is noted
---   header-told                                    = H in column 1
 --   used_none, used_instrument, used_point         = the place of the code that a line uses
 --   all_used, stops_24, stops_r, stops_s, last_x   = 24, then 25 of the three files, as far as the code comes
 use Prim.Native.Nat.{ℕ, ◌+◌, ◌≤◌, ◌<◌}

@@ -5,7 +5,7 @@
 --   row_small   = they hold bytes, where 3 is met
 --   row_own, own_is, row_told = a line and its own bytes; rank_is, rank_same = the bytes of characters are the medium's
 --   count_by, left_by, all_by = how many lines the code counts, by the stride that it has at hand
---   place, row_from, own-from, stray_from_lem, clean_from = a line begins at its stride times its number
+--   place, row_from, stray_from_lem, clean_from = a line begins at its stride times its number
 use Rattle.std.proofs.Common.{◌≡◌, ℕ, zero, suc, ◌+◌, ◌-◌, ◌*◌, ◌/◌, ◌%◌, ◌<◌, ◌≤◌, true, ltb, List, [], ◌∷◌, length, get_or, take, drop, sym, refl, ap, ◌∙◌, suc-mul, arith, lit≤, length-drop, length-take, get_or-drop, get_or-take, take-take, ltb-true, lt-ltb}
 use Rattle.rules.specs.Layout.{sps93}
 use Rattle.rules.specs.Names.{ranked}

@@ -2,7 +2,7 @@
 --   decimal_figures = they are digits, at least one, of the number's value
 --   figures_few     = no digits of that value are fewer
 --   digits_grow     = a larger number has no fewer
---   read-back       = read as the rules read digits they are the number; no_zero_before = no zero stands before them
+--   read_back       = read as the rules read digits they are the number; no_zero_before = no zero stands before them
 --   few_digits, twenty = how many there are at most
 --   room_small, room_more = the room that they take in a buffer
 use mathlib.Core.Path.{◌≡◌, refl, ap, sym, ◌∙◌}
