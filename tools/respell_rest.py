@@ -50,6 +50,9 @@ def respelt(line, words):
 def main():
     for name, words in ROWS:
         path = pathlib.Path(name)
+        if not path.exists():
+            print("not there:", name)
+            continue
         old = path.read_text()
         new = "\n".join(respelt(line, words) for line in old.split("\n"))
         if new == old:
