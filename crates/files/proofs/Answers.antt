@@ -48,6 +48,6 @@ read_within (Ok m) xs b = b.0
 read_within (Err e) xs b = tt
 
 pub came_read :
-    {E : Type 0} (r : Result ℕ E) (xs : List ℕ) (n room : ℕ) (t : Step) (z : Option ℕ) (m : ℕ) → ReadsAtMost r xs → z ≡ result_ok r → t ≡ next z n room → m ≡ came t
-    → m ≤ length xs
+    {E : Type 0} (r : Result ℕ E) (xs : List ℕ) (n room : ℕ) (t : Step) (z : Option ℕ) (m : ℕ) → ReadsAtMost r xs → z ≡ result_ok r
+    → t ≡ next z n room → m ≡ came t → m ≤ length xs
 came_read r xs n room t z m b e f g = rw (g, f, e) (came_within (result_ok r) n room (length xs) (read_within r xs b))

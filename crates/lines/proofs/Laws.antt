@@ -1,5 +1,7 @@
 -- Laws that the proofs of this crate share: a line that is copied column by column, the walk over its bytes, and the look at all of them.
-use Rattle.std.proofs.Common.{◌≡◌, ℕ, suc, ◌+◌, ◌-◌, ◌<◌, ◌≤◌, min, Bool, true, false, ◌&&◌, eqb, List, [], ◌∷◌, length, get_or, take, drop, set, sym, ap, ◌∙◌, subst, ap₂, add-one, arith, length-drop, length-take, get_or-drop, drop-cons, get_or-set_other, get_or-take, get_or-set_same, ext_get_or, eq-eqb, ne_eqb, le-leb}
+use Rattle.std.proofs.Common.{◌≡◌, ℕ, suc, ◌+◌, ◌-◌, ◌<◌, ◌≤◌, min, Bool, true, false, ◌&&◌, eqb, List, [], ◌∷◌, length, get_or, take, drop, set, sym, ap, ◌∙◌}
+use Rattle.std.proofs.Common.{subst, ap₂, add-one, arith, length-drop, length-take, get_or-drop, drop-cons, get_or-set_other, get_or-take, get_or-set_same}
+use Rattle.std.proofs.Common.{ext_get_or, eq-eqb, ne_eqb, le-leb}
 use mathlib.Core.Bool.{and-true}
 use borrow.Author.Tests.{lt-leb}
 use Rattle.rules.specs.Places.{pick}

@@ -6,7 +6,8 @@
 --   row_own, own_is, row_told = a line and its own bytes; rank_is, rank_same = the bytes of characters are the medium's
 --   count_by, left_by, all_by = how many lines the code counts, by the stride that it has at hand
 --   place, row_from, stray_from_lem, clean_from = a line begins at its stride times its number
-use Rattle.std.proofs.Common.{◌≡◌, ℕ, zero, suc, ◌+◌, ◌-◌, ◌*◌, ◌/◌, ◌%◌, ◌<◌, ◌≤◌, true, ltb, List, [], ◌∷◌, length, get_or, take, drop, sym, refl, ap, ◌∙◌, suc-mul, arith, lit≤, length-drop, length-take, get_or-drop, get_or-take, take-take, ltb-true, lt-ltb}
+use Rattle.std.proofs.Common.{◌≡◌, ℕ, zero, suc, ◌+◌, ◌-◌, ◌*◌, ◌/◌, ◌%◌, ◌<◌, ◌≤◌, true, ltb, List, [], ◌∷◌, length, get_or, take, drop, sym, refl, ap, ◌∙◌}
+use Rattle.std.proofs.Common.{suc-mul, arith, lit≤, length-drop, length-take, get_or-drop, get_or-take, take-take, ltb-true, lt-ltb}
 use Rattle.rules.specs.Layout.{sps93}
 use Rattle.rules.specs.Names.{ranked}
 use Rattle.rules.specs.Medium.{sheet}
@@ -212,7 +213,8 @@ module _ (how : Reading) (f : List ℕ) (k : ℕ) (h : k < (sheet_of how f).coun
       take-take 80 (medium_of how).stride _ (lawful how).narrow
       ∙ sym
       (ranked_back (medium_of how).char_of (medium_of how).byte_of line
-      (own_all (medium_of how).char_of (medium_of how).byte_of line (λ i l. let n = line_length in (lawful how).told (i + 1) _ (omega arith) (taken_at i (omega arith)))))
+      (own_all (medium_of how).char_of (medium_of how).byte_of line
+      (λ i l. let n = line_length in (lawful how).told (i + 1) _ (omega arith) (taken_at i (omega arith)))))
 
   -- each of its characters has a byte
   char_at : (i : ℕ) → i < 80 → get_or ((sheet_of how f).row k) i 0 ≡ (medium_of how).char_of (get_or line i 0)

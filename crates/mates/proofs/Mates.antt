@@ -50,11 +50,13 @@ module _ (x : Sheet) (k j : ℕ) where
   unfolding mates reaches_of
   mate_is_data e = ((and_is (is_data x j) (of_record (reach_at x k).tape (reach_at x k).number (reach_at x j))).0 e).0
 
-  pub mate_read : mates (reaches_of x) k j ≡ true → (is_data x j ≡ true) × (((reach_at x j).tape ≡ (reach_at x k).tape) × ((reach_at x j).number ≡ (reach_at x k).number))
+  pub mate_read : mates (reaches_of x) k j ≡ true
+      → (is_data x j ≡ true) × (((reach_at x j).tape ≡ (reach_at x k).tape) × ((reach_at x j).number ≡ (reach_at x k).number))
   unfolding mates reaches_of of_record
   mate_read = simp (and_is, same_is, eqb_is) (λ e. e)
 
-  pub read_mate : (is_data x j ≡ true) × (((reach_at x j).tape ≡ (reach_at x k).tape) × ((reach_at x j).number ≡ (reach_at x k).number)) → mates (reaches_of x) k j ≡ true
+  pub read_mate : (is_data x j ≡ true) × (((reach_at x j).tape ≡ (reach_at x k).tape) × ((reach_at x j).number ≡ (reach_at x k).number))
+      → mates (reaches_of x) k j ≡ true
   unfolding mates reaches_of of_record
   read_mate = simp (and_is, same_is, eqb_is) (λ e. e)
 

@@ -88,7 +88,9 @@ number_back (decimals {w = w} f) (pos n) a h = rw (tenths_back w n) (a, refl)
 number_back (decimals f) (negsuc n) a h = clash a
 number_back (either_sign {m = x} {n = y} {w = w} f g) n a h = rw (pointed_back w n, value_as n) (within_as x y n ∙ a, refl)
 number_back (coordinates {w = w}) n a h =
-    let e = either (λ (l : List ℕ). tenths signed (padded 32 w l) ≡ as_number n) (leb (length (by_sign with_point n)) w) _ _ (pointed_back w n) (bare_back w n) in
+    let e =
+    either (λ (l : List ℕ). tenths signed (padded 32 w l) ≡ as_number n) (leb (length (by_sign with_point n)) w) _ _
+    (pointed_back w n) (bare_back w n) in
     rw (e, value_as n) (formed_as n, refl)
 number_back (depths {w = w} f) (pos n) a h = rw (water_back w n a) (refl, refl)
 number_back (depths f) (negsuc n) a h = clash a

@@ -9,7 +9,8 @@
 --   allows k v        = the field's rule allows the value
 --   columns_hold k w v = its columns hold it
 --   goes_into k w v    = both
-use Rattle.std.specs.Prelude.{ℕ, suc, ◌-◌, ◌/◌, ◌%◌, Bool, true, false, not, ◌&&◌, ◌||◌, List, [], ◌∷◌, ◌++◌, eqb, leb, ℤ, pos, negsuc, length, replicate, get_or}
+use Rattle.std.specs.Prelude.{ℕ, suc, ◌-◌, ◌/◌, ◌%◌, Bool, true, false, not, ◌&&◌, ◌||◌, List, [], ◌∷◌, ◌++◌, eqb, leb, ℤ, pos, negsuc, length, replicate}
+use Rattle.std.specs.Prelude.{get_or}
 use Prim.Native.Char.{code as ascii}
 use Rattle.rules.specs.Places.{pick, every}
 use Rattle.rules.specs.Text.{col}

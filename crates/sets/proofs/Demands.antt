@@ -130,7 +130,8 @@ demand_2 κs a v w p = judged (sheet_of a.0 a.1.0.now) (sheet_of a.0 a.1.1.0.now
 asked : (v : FormVerdict) (how how' : Reading) (b b' : ℕ) (f f' : List ℕ) → answered v ≡ file_form b (sheet_of how f) → how ≡ how' → b ≡ b' → f ≡ f'
     → answered v ≡ file_form b' (sheet_of how' f')
 asked v how how' b b' f f' e y z w =
-    e ∙ ap (λ (h : Reading). file_form b (sheet_of h f)) y ∙ ap (λ (k : ℕ). file_form k (sheet_of how' f)) z ∙ ap (λ (g : List ℕ). file_form b' (sheet_of how' g)) w
+    e ∙ ap (λ (h : Reading). file_form b (sheet_of h f)) y ∙ ap (λ (k : ℕ). file_form k (sheet_of how' f)) z
+    ∙ ap (λ (g : List ℕ). file_form b' (sheet_of how' g)) w
 
 -- "three files are accepted by the cross-check only if each is by the form of its kind, and if one is not, it refuses as the first of the three does"
 pub tied : (κs : Lfts 3) (a : ArgsD cross.signature κs) (v : ResD cross.signature κs) (w : AtExit cross.ended κs) → cross_reads.Post κs a v w

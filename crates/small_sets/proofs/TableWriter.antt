@@ -89,9 +89,9 @@ unfolding Places.pick Places.every Places.some Places.least Places.count Places.
     Numbers.decimal Numbers.tenths Numbers.size Numbers.value Kinds.formed Kinds.between Kinds.within Kinds.all_digits Kinds.digit1 Kinds.index_of
     Kinds.family Kinds.is_code Kinds.water Kinds.is_time Kinds.fits Layout.sps93 Layout.at Sheet.most_lines Disc.printable Disc.byte_fits Form.stray_from
     Form.stray Form.ending Form.rule29 Medium.sheet Disc.disc Tape.page Tape.char_in Tape.place_of Tape.byte_in Tape.tape Names.same_name Names.ranked
-    Names.less_name Lines.letter Lines.kind_of Lines.is_header Lines.is_marker Lines.is_data Lines.is_point Lines.heads Points.holds Points.name_of Points.number_of
-    Points.index_at Points.state_of Points.point Points.point_at Points.is_at Points.same_point Points.is_killed Relations.reach Relations.relation
-    Relations.reach_at Relations.relation_at
+    Names.less_name Lines.letter Lines.kind_of Lines.is_header Lines.is_marker Lines.is_data Lines.is_point Lines.heads Points.holds Points.name_of
+    Points.number_of Points.index_at Points.state_of Points.point Points.point_at Points.is_at Points.same_point Points.is_killed Relations.reach
+    Relations.relation Relations.reach_at Relations.relation_at
     Cover.traces Cover.carries Cover.receivers Cover.receiver_on Cover.on_to Cover.covers Cover.leads Cover.component Cover.channel_of Cover.meet
     Rows.header_rows Rows.point_rows Rows.relation_rows Form.rule1 Form.rule2 Form.rule3 Form.rule4 Form.fields_fit Form.rule5 Form.rule6 Form.line_fits
     Form.form Headers.two_digits Headers.is_type Headers.rule7 Headers.cut Headers.freed_before Headers.freed_after Headers.projection Headers.rule8
@@ -136,9 +136,9 @@ unfolding Places.pick Places.every Places.some Places.least Places.count Places.
     Numbers.decimal Numbers.tenths Numbers.size Numbers.value Kinds.formed Kinds.between Kinds.within Kinds.all_digits Kinds.digit1 Kinds.index_of
     Kinds.family Kinds.is_code Kinds.water Kinds.is_time Kinds.fits Layout.sps93 Layout.at Sheet.most_lines Disc.printable Disc.byte_fits Form.stray_from
     Form.stray Form.ending Form.rule29 Medium.sheet Disc.disc Tape.page Tape.char_in Tape.place_of Tape.byte_in Tape.tape Names.same_name Names.ranked
-    Names.less_name Lines.letter Lines.kind_of Lines.is_header Lines.is_marker Lines.is_data Lines.is_point Lines.heads Points.holds Points.name_of Points.number_of
-    Points.index_at Points.state_of Points.point Points.point_at Points.is_at Points.same_point Points.is_killed Relations.reach Relations.relation
-    Relations.reach_at Relations.relation_at
+    Names.less_name Lines.letter Lines.kind_of Lines.is_header Lines.is_marker Lines.is_data Lines.is_point Lines.heads Points.holds Points.name_of
+    Points.number_of Points.index_at Points.state_of Points.point Points.point_at Points.is_at Points.same_point Points.is_killed Relations.reach
+    Relations.relation Relations.reach_at Relations.relation_at
     Cover.traces Cover.carries Cover.receivers Cover.receiver_on Cover.on_to Cover.covers Cover.leads Cover.component Cover.channel_of Cover.meet
     Rows.header_rows Rows.point_rows Rows.relation_rows Form.rule1 Form.rule2 Form.rule3 Form.rule4 Form.fields_fit Form.rule5 Form.rule6 Form.line_fits
     Form.form Headers.two_digits Headers.is_type Headers.rule7 Headers.cut Headers.freed_before Headers.freed_after Headers.projection Headers.rule8

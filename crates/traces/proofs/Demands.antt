@@ -163,7 +163,8 @@ rows_told κs a v w p =
 
 -- the table and the lookup agree: where the one says h, the place of each channel up to h has the line and component that the other answers
 pub agrees : (read : List ℕ → List ℕ) (q : Record) (d e d' e' : List ℕ) (h : ℕ)
-    → Tabled read (receiver_sheet q) (shot_sheet q) (relation_sheet q) q.tape q.number d e (Highest h) d' e' → (c : ℕ) → c < h → (v : Answer) → LookedUp q (c + 1) v
+    → Tabled read (receiver_sheet q) (shot_sheet q) (relation_sheet q) q.tape q.number d e (Highest h) d' e'
+    → (c : ℕ) → c < h → (v : Answer) → LookedUp q (c + 1) v
     → (get_or (read d') c 0 ≡ line_of (paper v)) × (get_or e' c 0 ≡ component_of (paper v))
 agrees read q d e d' e' h t c l v a =
     let f = t.filled h refl in

@@ -49,7 +49,8 @@ pub less_fits : (z : ℤ) → SFits w64 z → reads_below z ≡ true → SFits w
 less_fits (pos n) f e = clash (sym (not_below_lem n f) ∙ e)
 less_fits (negsuc n) f e = rw (less_is n f) (pos_fits n f)
 
-pub less_casts : (z : ℤ) → SFits w64 z → reads_below z ≡ true → T (non_neg (to_z w64 (of_z w64 (less_of z)))) × Fits w64 (nat_abs (to_z w64 (of_z w64 (less_of z))))
+pub less_casts : (z : ℤ) → SFits w64 z → reads_below z ≡ true
+    → T (non_neg (to_z w64 (of_z w64 (less_of z)))) × Fits w64 (nat_abs (to_z w64 (of_z w64 (less_of z))))
 less_casts (pos n) f e = clash (sym (not_below_lem n f) ∙ e)
 less_casts (negsuc n) f e = let b = f.sfits in rw (less_back n f) (tt, record { fits = omega arith })
 

@@ -61,7 +61,8 @@ pub less_fits : (z : ℤ) → SFits w64 z → minus_of z ≡ true → SFits w64 
 less_fits (pos n) f e = clash e
 less_fits (negsuc n) f e = rw (less_is n f) (pos_fits n f)
 
-pub less_casts : (z : ℤ) → SFits w64 z → minus_of z ≡ true → T (non_neg (to_z w64 (of_z w64 (less_of z)))) × Fits w64 (nat_abs (to_z w64 (of_z w64 (less_of z))))
+pub less_casts : (z : ℤ) → SFits w64 z → minus_of z ≡ true
+    → T (non_neg (to_z w64 (of_z w64 (less_of z)))) × Fits w64 (nat_abs (to_z w64 (of_z w64 (less_of z))))
 less_casts (pos n) f e = clash e
 less_casts (negsuc n) f e = let b = f.sfits in rw (less_back n f) (tt, record { fits = omega arith })
 

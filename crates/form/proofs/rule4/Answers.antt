@@ -13,7 +13,9 @@ unfolding most_lines
 at_line-requires c = search rules
 
 pub returns-then-is_header : goal.returns-then-is_header
-returns-then-is_header c = record { verdict = c.at_line.ensures.verdict ∙ four_after_data _ _ _ _ _ c.is_header.ensures.value c.if-is_header.true c.if-headers.false }
+returns-then-is_header c = record {
+  verdict = c.at_line.ensures.verdict ∙ four_after_data _ _ _ _ _ c.is_header.ensures.value c.if-is_header.true c.if-headers.false;
+}
 
 pub returns-then-l-letter : goal.returns-then-l-letter
 returns-then-l-letter c = record {

@@ -6,7 +6,9 @@ pub returns-in-Refused : goal.returns-in-Refused
 returns-in-Refused c = record { verdict = breaks_7 _ _ _ _ c.rule7-types.ensures.verdict c.in-Refused.is }
 
 pub returns-in-Refused-projections : goal.returns-in-Refused-projections
-returns-in-Refused-projections c = record { verdict = breaks_8 _ _ _ _ c.rule7-types.ensures.verdict c.in_default.is _ c.rule8-projections.ensures.verdict c.in-Refused-projections.is }
+returns-in-Refused-projections c = record {
+  verdict = breaks_8 _ _ _ _ c.rule7-types.ensures.verdict c.in_default.is _ c.rule8-projections.ensures.verdict c.in-Refused-projections.is;
+}
 
 pub returns-in-Refused-of_s : goal.returns-in-Refused-of_s
 returns-in-Refused-of_s c = record {

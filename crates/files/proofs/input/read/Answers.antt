@@ -10,11 +10,14 @@ returns-in-Known g c =
     let l = c.loop-i in
     let i = l.invariant in
     let p = c.piece-t in
-    let k = known_kept c.in-Known.i _ l.n _ l.buf c.args.buf.now p.new.chunk p.new.left c.in-Known.is p.ensures.follows i.within i.size i.rest p.ensures.written in
+    let k =
+    known_kept c.in-Known.i _ l.n _ l.buf c.args.buf.now p.new.chunk p.new.left c.in-Known.is p.ensures.follows i.within i.size i.rest
+    p.ensures.written in
     record {
       fits = k.0;
       rest = k.1;
-      known = read_whole c.in-Known.i _ l.n _ l.buf p.new.left p.new.chunk _ _ (g.F.Read.remaining p.new.file) c.in-Known.is p.ensures.follows i.bytes (p.ensures.bytes (omega arith)) i.within
+      known = read_whole c.in-Known.i _ l.n _ l.buf p.new.left p.new.chunk _ _ (g.F.Read.remaining p.new.file) c.in-Known.is p.ensures.follows
+          i.bytes (p.ensures.bytes (omega arith)) i.within
           (omega (arith, length_with l.n l.buf p.new.left i.within p.auto.left, length-take (length l.buf - l.n) (drop l.n l.buf), length-drop l.n l.buf));
     }
 
@@ -40,6 +43,6 @@ loop-i-preserved g c =
       within = omega (arith, s);
       size = s ∙ i.size;
       rest = more_kept l.n l.buf _ p.new.chunk p.new.left i.within i.rest _ w;
-      bytes = read_more _ c.in-Came.m l.n _ l.buf p.new.chunk p.new.left _ _ (g.F.Read.remaining p.new.file) c.in-Came.is i.within p.ensures.stands m.1 p.ensures.written i.bytes
-          (p.ensures.bytes (omega arith));
+      bytes = read_more _ c.in-Came.m l.n _ l.buf p.new.chunk p.new.left _ _ (g.F.Read.remaining p.new.file) c.in-Came.is i.within
+          p.ensures.stands m.1 p.ensures.written i.bytes (p.ensures.bytes (omega arith));
     }

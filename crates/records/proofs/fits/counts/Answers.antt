@@ -17,7 +17,9 @@ unfolding most_lines
 at_line-requires-then-i-eq0 c = search rules
 
 pub returns-then-i-eq0 : goal.returns-then-i-eq0
-returns-then-i-eq0 c = record { verdict = λ p e. c.at_line-then-i-eq0.ensures.verdict ∙ six_none _ p _ e c.if-q.false _ (c.traces-n.ensures.value p e) c.if-i-eq0.true }
+returns-then-i-eq0 c = record {
+  verdict = λ p e. c.at_line-then-i-eq0.ensures.verdict ∙ six_none _ p _ e c.if-q.false _ (c.traces-n.ensures.value p e) c.if-i-eq0.true;
+}
 
 pub at_line-requires-then-n-i-ne0 : goal.at_line-requires-then-n-i-ne0
 unfolding most_lines

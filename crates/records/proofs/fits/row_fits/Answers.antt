@@ -11,7 +11,9 @@ pub left_blank-requires : goal.left_blank-requires
 left_blank-requires c = let h = sized_is _ _ _ c.requires in (h.0, h.1.1.0)
 
 pub returns-then-left_blank : goal.returns-then-left_blank
-returns-then-left_blank c = record { value = row_blank _ _ c.args.w _ c.spared.ensures.value c.if-spared.false _ c.left_blank.ensures.value c.if-left_blank.true }
+returns-then-left_blank c = record {
+  value = row_blank _ _ c.args.w _ c.spared.ensures.value c.if-spared.false _ c.left_blank.ensures.value c.if-left_blank.true;
+}
 
 pub fits-requires : goal.fits-requires
 fits-requires c = sized_is _ _ _ c.requires

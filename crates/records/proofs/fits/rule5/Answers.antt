@@ -10,7 +10,9 @@ use mathlib.Core.Path.{◌∙◌, ap}
 use Rattle.records.proofs.fits.rule5.Goals as goal
 
 pub returns-then-header_fits : goal.returns-then-header_fits
-returns-then-header_fits c = record { verdict = five_header _ _ _ _ _ c.is_header.ensures.value c.if-is_header.true (c.header_fits.ensures.fine c.if-header_fits.true _ _) }
+returns-then-header_fits c = record {
+  verdict = five_header _ _ _ _ _ c.is_header.ensures.value c.if-is_header.true (c.header_fits.ensures.fine c.if-header_fits.true _ _);
+}
 
 pub returns-then-is_header : goal.returns-then-is_header
 unfolding rows_of
@@ -24,7 +26,9 @@ returns-then-relation_fits c = record {
 
 pub returns-then-i-eq3 : goal.returns-then-i-eq3
 unfolding rows_of
-returns-then-i-eq3 c = record { verdict = five_relation _ _ _ _ _ c.is_header.ensures.value c.if-is_header.false c.if-i-eq3.true c.fields_fit-then-i-eq3.ensures.verdict }
+returns-then-i-eq3 c = record {
+  verdict = five_relation _ _ _ _ _ c.is_header.ensures.value c.if-is_header.false c.if-i-eq3.true c.fields_fit-then-i-eq3.ensures.verdict;
+}
 
 pub returns-then-point_fits : goal.returns-then-point_fits
 returns-then-point_fits c = record {

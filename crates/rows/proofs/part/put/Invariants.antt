@@ -13,7 +13,8 @@ invariant-loop-i l = (l.initial.i ≤ l.i)
     × ((l.i ≤ l.end)
     × ((l.c ≡ l.initial.c + (l.i - l.initial.i))
     × ((length l.places ≡ length l.initial.places)
-    × ((v : Reach) → l.q ≡ coded_reach v → l.places ≡ spliced (16 * l.initial.i) (part_rows l.line l.o l.t l.e v l.initial.c (l.i - l.initial.i)) l.initial.places))))
+    × ((v : Reach) → l.q ≡ coded_reach v
+    → l.places ≡ spliced (16 * l.initial.i) (part_rows l.line l.o l.t l.e v l.initial.c (l.i - l.initial.i)) l.initial.places))))
 
 abbrev pub decreases-loop-i : goal.decreases-loop-i
 decreases-loop-i l = l.end - l.i

@@ -15,7 +15,8 @@ invariant-loop-c l = (l.q.from ≤ l.c)
     × ((l.c ≤ l.end)
     × ((length l.lines ≡ length l.initial.lines)
     × (Walk l.q l.o l.e l.end (length l.initial.lines / 2)
-    × ((p : Reach) → l.q ≡ coded_reach p → l.lines ≡ taken byte_place (between l.q.from l.c) (row_line l.o l.e p) (length l.initial.lines / 2) l.initial.lines))))
+    × ((p : Reach) → l.q ≡ coded_reach p
+    → l.lines ≡ taken byte_place (between l.q.from l.c) (row_line l.o l.e p) (length l.initial.lines / 2) l.initial.lines))))
 
 abbrev pub decreases-loop-c : goal.decreases-loop-c
 decreases-loop-c l = l.end - l.c

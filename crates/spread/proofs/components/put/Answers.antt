@@ -75,7 +75,8 @@ loop-c-preserved c = let a = c.args in
         (
           simp length-set l,
           λ p y.
-              taken_one place numbers _ _ _ at.c _ _ (omega arith) refl at.invariant.0 (omega arith) _ _ (at.invariant.1.1.1 p y) _ (c.component.ensures.value p y),
+              taken_one place numbers _ _ _ at.c _ _ (omega arith) refl at.invariant.0 (omega arith) _ _ (at.invariant.1.1.1 p y) _
+              (c.component.ensures.value p y),
         ),
       ),
     )

@@ -10,13 +10,15 @@ overflow_sub-n c = let w = c.requires in
     omega (arith, c.leads.ensures.value w.reach w.coded, c.lowest.ensures.value w.reach w.coded, w.above)
 
 pub overflow_add-result : goal.overflow_add-result
-overflow_add-result c = let on : c.leads.result - c.lowest.result
-    ≡ leads c.requires.reach c.args.c - lowest c.requires.reach = let w = c.requires in ap₂ ◌-◌ (c.leads.ensures.value w.reach w.coded) (c.lowest.ensures.value w.reach w.coded) in
+overflow_add-result c =
+    let on : c.leads.result - c.lowest.result ≡ leads c.requires.reach c.args.c - lowest c.requires.reach =
+    let w = c.requires in ap₂ ◌-◌ (c.leads.ensures.value w.reach w.coded) (c.lowest.ensures.value w.reach w.coded) in
     omega (arith, on, c.requires.inside)
 
 pub returns : goal.returns
-returns c = let on : c.leads.result - c.lowest.result
-    ≡ leads c.requires.reach c.args.c - lowest c.requires.reach = let w = c.requires in ap₂ ◌-◌ (c.leads.ensures.value w.reach w.coded) (c.lowest.ensures.value w.reach w.coded) in
+returns c =
+    let on : c.leads.result - c.lowest.result ≡ leads c.requires.reach c.args.c - lowest c.requires.reach =
+    let w = c.requires in ap₂ ◌-◌ (c.leads.ensures.value w.reach w.coded) (c.lowest.ensures.value w.reach w.coded) in
     record {
       value = λ p e. ap₂ (λ (m l : ℕ). c.args.e + (m - l)) (c.leads.ensures.value p e) (c.lowest.ensures.value p e);
       inside = omega (arith, on, c.requires.inside);

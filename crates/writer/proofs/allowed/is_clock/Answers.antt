@@ -14,7 +14,9 @@ returns-then-n-gt23 c = record { value = λ z s. (rw (lt-leb _ _ c.if-n-gt23.tru
 
 pub returns-then-n-gt59 : goal.returns-then-n-gt59
 unfolding is_clock
-returns-then-n-gt59 c = record { value = λ z s. (rw (le-leb _ _ c.if-n-gt23.false, lt-leb _ _ c.if-n-gt59.true)) ∙ natural_is z _ _ s is_clock c.if-minus.false }
+returns-then-n-gt59 c = record {
+  value = λ z s. (rw (le-leb _ _ c.if-n-gt23.false, lt-leb _ _ c.if-n-gt59.true)) ∙ natural_is z _ _ s is_clock c.if-minus.false;
+}
 
 pub returns : goal.returns
 unfolding is_clock

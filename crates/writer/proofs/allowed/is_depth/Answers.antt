@@ -14,7 +14,9 @@ returns-then-n-le999 c = record { value = λ z s. (rw (le-leb _ _ c.if-n-le999.t
 
 pub returns-then-n-gt9990 : goal.returns-then-n-gt9990
 unfolding is_depth
-returns-then-n-gt9990 c = record { value = λ z s. (rw (lt-leb _ _ c.if-n-le999.false, lt-leb _ _ c.if-n-gt9990.true)) ∙ natural_is z _ _ s is_depth c.if-minus.false }
+returns-then-n-gt9990 c = record {
+  value = λ z s. (rw (lt-leb _ _ c.if-n-le999.false, lt-leb _ _ c.if-n-gt9990.true)) ∙ natural_is z _ _ s is_depth c.if-minus.false;
+}
 
 pub returns : goal.returns
 unfolding is_depth

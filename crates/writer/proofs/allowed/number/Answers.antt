@@ -31,7 +31,9 @@ returns-in-Time c = record { value = λ z s. c.is_clock.ensures.value z s ∙ sy
 
 pub returns-in-WholeNumber : goal.returns-in-WholeNumber
 unfolding allows_number
-returns-in-WholeNumber c = record { value = λ z s. c.up_from-in-WholeNumber.ensures.value z s ∙ sym (ap (λ (k : Kind). allows_number (kind k) z) c.in-WholeNumber.is) }
+returns-in-WholeNumber c = record {
+  value = λ z s. c.up_from-in-WholeNumber.ensures.value z s ∙ sym (ap (λ (k : Kind). allows_number (kind k) z) c.in-WholeNumber.is);
+}
 
 pub returns-in-SignedNumber : goal.returns-in-SignedNumber
 unfolding allows_number
@@ -39,11 +41,15 @@ returns-in-SignedNumber c = record { value = λ z s. c.from_to.ensures.value z s
 
 pub returns-in-SignedDecimal : goal.returns-in-SignedDecimal
 unfolding allows_number
-returns-in-SignedDecimal c = record { value = λ z s. c.from_to-in-SignedDecimal.ensures.value z s ∙ sym (ap (λ (k : Kind). allows_number (kind k) z) c.in-SignedDecimal.is) }
+returns-in-SignedDecimal c = record {
+  value = λ z s. c.from_to-in-SignedDecimal.ensures.value z s ∙ sym (ap (λ (k : Kind). allows_number (kind k) z) c.in-SignedDecimal.is);
+}
 
 pub returns-in-DecimalNumber : goal.returns-in-DecimalNumber
 unfolding allows_number
-returns-in-DecimalNumber c = record { value = λ z s. c.up_from-in-DecimalNumber.ensures.value z s ∙ sym (ap (λ (k : Kind). allows_number (kind k) z) c.in-DecimalNumber.is) }
+returns-in-DecimalNumber c = record {
+  value = λ z s. c.up_from-in-DecimalNumber.ensures.value z s ∙ sym (ap (λ (k : Kind). allows_number (kind k) z) c.in-DecimalNumber.is);
+}
 
 pub returns-in-Code : goal.returns-in-Code
 unfolding allows_number
