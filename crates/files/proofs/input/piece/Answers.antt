@@ -21,6 +21,7 @@ pub returns : goal.returns
 returns g c = record {
   follows = record { answer = _; value = c.next-t.ensures.value };
   written = c.place.ensures.written ∙ ap (λ (k : ℕ). over (take k c.read.new.buf) c.args.left.now) c.came-m.ensures.value;
-  stands = rw c.came-m.ensures.value at (stand g c);
+  stands = rw c.came-m.ensures.value at (came_read c.read.result _ _ _ _ c.ok-got.result _ c.read.ensures.bound c.ok-got.ensures.value
+      c.next-t.ensures.value c.came-m.ensures.value);
   bytes = λ l. tells _ _ c.read.result _ _ _ _ _ c.read.ensures.bound c.read.ensures.bytes c.ok-got.ensures.value c.next-t.ensures.value (omega arith);
 }
