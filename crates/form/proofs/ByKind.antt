@@ -13,15 +13,14 @@ use Rattle.rules.specs.Form.{form}
 use Rattle.rules.specs.Check.{refusal, formed, answer}
 use Rattle.rules.specs.OneFile.{kind_asked, file_form}
 use Rattle.rules.proofs.OneFile.{form_kind, no_kind}
-use Rattle.lines.specs.Paper.{paper}
-use Rattle.lines.specs.declared.Verdict.{Verdict}
-use Rattle.lines.specs.declared.Verdict.TheVariants.{Fine, Refused}
+use Rattle.std.specs.Prelude.{Ok, Err}
+use Rattle.lines.specs.Paper.{Verdict, paper}
 use Rattle.form.specs.Paper.{answered}
 
 pub answered_is : (v : Verdict) → answered v ≡ answer (paper v) formed
 unfolding answer
-answered_is Fine = refl
-answered_is (Refused n f l c) = refl
+answered_is (Ok u) = refl
+answered_is (Err d) = refl
 
 module _ (b i : ℕ) (f : Sheet) (e : i ≡ kind_of b) where
   pub unknown_kind : i ≡ 0 → refusal (№ 20 0 0 0) ≡ file_form b f

@@ -9,8 +9,8 @@ use Rattle.rules.specs.Sheet.{Sheet}
 use Rattle.rules.specs.OneFile.{file_form}
 use Rattle.rules.proofs.OneFile.{form_formed, form_refuses}
 use Rattle.lines.specs.Reading.{sheet_of}
-use Rattle.lines.specs.declared.Verdict.{Verdict}
-use Rattle.lines.specs.declared.Verdict.TheVariants.{Fine, Refused}
+use Rattle.std.specs.Prelude.{Ok, Err}
+use Rattle.lines.specs.Paper.{Verdict}
 use Rattle.form.specs.Paper.{answered}
 use Rattle.form.specs.Said.{Morning}
 use Rattle.form.proofs.One.{answered_one}
@@ -20,10 +20,10 @@ use Rattle.form.proofs.form.Reads as form_reads
 pub told : (b : ℕ) (f : Sheet) (v : Verdict) → answered v ≡ file_form b f → Morning b f v
 told b f v e =
     record {
-      formed_when = let w = form_formed b f in (λ y. w.0 (sym e ∙ ap answered y), λ y. answered_one v Fine (e ∙ w.1 y));
+      formed_when = let w = form_formed b f in (λ y. w.0 (sym e ∙ ap answered y), λ y. answered_one v (Ok tt) (e ∙ w.1 y));
       refused_when = λ n i l c.
           let w = form_refuses b f (№ n i l c) in
-          (λ y. w.0 (sym e ∙ ap answered y), λ y. answered_one v (Refused n i l c) (e ∙ w.1 y));
+          (λ y. w.0 (sym e ∙ ap answered y), λ y. answered_one v (Err (record { number = n; file = i; line = l; column = c })) (e ∙ w.1 y));
     }
 
 -- "the form of a single file of a stated kind (1 to 6; accepted without counts)"

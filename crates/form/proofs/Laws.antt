@@ -18,24 +18,7 @@ use Rattle.rules.specs.Relations.{reach}
 use Rattle.rules.specs.Form.{stray, rule1, rule2, rule29, rule3, rule4, rule6, line_fits}
 use Rattle.rules.proofs.Breach.{run_met}
 use Rattle.rules.proofs.Steps.{need_met, need_broken, before_met, before_broken, when_on, when_off}
-use Rattle.lines.specs.declared.Verdict.{Verdict}
-use Rattle.lines.specs.declared.Verdict.TheVariants.{Fine, Refused}
-use Rattle.lines.specs.Paper.{paper}
 use Rattle.form.specs.Steps.{headers_to, letter_fits, numbers_of, fields_of}
-
--- a call's verdict on the first part of a plan, and the plan
-module _ (v : Verdict) (p : Plan) (e : paper v ≡ run p) where
-  pub is_met : v ≡ Fine → fine ≡ run p
-  is_met z = ap paper (sym z) ∙ e
-
-  pub is_broken : {a b c d : ℕ} → v ≡ Refused a b c d → refused (№ a b c d) ≡ run p
-  is_broken z = ap paper (sym z) ∙ e
-
-  pub goes_on_lem : v ≡ Fine → (q : Plan) (w : Verdict) → paper w ≡ run q → paper w ≡ run (p before q)
-  goes_on_lem z q w y = y ∙ before_met p q (is_met z)
-
-  pub stops_at : {a b c d : ℕ} → v ≡ Refused a b c d → (q : Plan) → paper v ≡ run (p before q)
-  stops_at z q = ap paper z ∙ before_broken p q _ (is_broken z)
 
 pub grouped : (p q r : Plan) → run ((p before q) before r) ≡ run (p before q before r)
 unfolding run ◌or_else◌

@@ -2,8 +2,8 @@
 use mathlib.Core.Path.{◌≡◌, refl, sym, ◌∙◌}
 use Rattle.outcome.specs.One.{One}
 use Rattle.lines.proofs.One.{verdict_one}
-use Rattle.lines.specs.declared.Verdict.{Verdict}
-use Rattle.lines.specs.declared.Verdict.TheVariants.{Fine, Refused}
+use Rattle.std.specs.Prelude.{Ok, Err}
+use Rattle.lines.specs.Paper.{Verdict, paper}
 use Rattle.form.specs.Paper.{answered}
 use Rattle.form.specs.contracts.fields_fit as fields_fit
 use Rattle.form.proofs.fields_fit.Reads as fields_fit_reads
@@ -23,11 +23,15 @@ data_fits_one κs a v v' w w' p p' = (verdict_one v v' (p ∙ sym p'), refl)
 pub file_fits_one : One file_fits.ended file_fits_reads.Post
 file_fits_one κs a v v' w w' p p' = (verdict_one v v' (p ∙ sym p'), refl)
 
+-- an answer on one file is that verdict's
+paper_of : (a b : Verdict) → answered a ≡ answered b → paper a ≡ paper b
+paper_of (Ok u) (Ok v) e = refl
+paper_of (Ok u) (Err d) e = cc
+paper_of (Err d) (Ok u) e = cc
+paper_of (Err d) (Err d') e = cc
+
 pub answered_one : (a b : Verdict) → answered a ≡ answered b → a ≡ b
-answered_one Fine Fine e = refl
-answered_one Fine (Refused n f l c) e = cc
-answered_one (Refused n f l c) Fine e = cc
-answered_one (Refused n f l c) (Refused n' f' l' c') e = cc
+answered_one a b e = verdict_one a b (paper_of a b e)
 
 pub form_one : One form.ended form_reads.Post
 form_one κs a v v' w w' p p' = (answered_one v v' (p ∙ sym p'), refl)

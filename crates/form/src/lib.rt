@@ -21,12 +21,12 @@ fn rule4(l: &[u8; 80], i: u8, k: usize, headers: bool) -> Verdict
 {
     if fits::is_header(l) {
         if headers {
-            return Verdict::Fine;
+            return Ok(());
         }
         return lines::at_line(4, i, k, 1);
     }
     if l[0] == lines::letter(i) {
-        return Verdict::Fine;
+        return Ok(());
     }
     lines::at_line(4, i, k, 1)
 }
@@ -37,23 +37,21 @@ fn numbers_fit(l: &[u8; 80], i: u8, k: usize) -> Verdict
     ensures verdict { paper result ≡ run (numbers_of sps93 i k l.now) }
 {
     if i != 3 {
-        return Verdict::Fine;
+        return Ok(());
     }
     if fits::is_header(l) {
-        return Verdict::Fine;
+        return Ok(());
     }
     fits::rule6(l, k)
 }
 
 // 5 of line k, then 6.
+#[tactic(auto, using(rules::proofs::Plans::plans), unfolding(crate::specs::Steps::fields_of))]
 pub fn fields_fit(l: &[u8; 80], i: u8, k: usize) -> Verdict
     requires { k ≤ most_lines }
     ensures verdict { paper result ≡ run (fields_of sps93 i k l.now) }
 {
-    let v = fits::rule5(l, i, k);
-    if let Verdict::Refused(_, _, _, _) = v {
-        return v;
-    }
+    fits::rule5(l, i, k)?;
     numbers_fit(l, i, k)
 }
 
@@ -67,10 +65,7 @@ fn line_fits(how: Reading, f: &[u8], l: &[u8; 80], i: u8, k: usize, headers: boo
     if c != 0 {
         return lines::at_line(3, i, k, c);
     }
-    let v = rule4(l, i, k, headers);
-    if let Verdict::Refused(_, _, _, _) = v {
-        return v;
-    }
+    rule4(l, i, k, headers)?;
     fields_fit(l, i, k)
 }
 
@@ -83,16 +78,6 @@ pub fn data_fits(how: Reading, f: &[u8], l: &[u8; 80], i: u8, k: usize) -> Verdi
     line_fits(how, f, l, i, k, false)
 }
 
-// Whether the lines up to line l are all header lines, where `headers` says it of those before it.
-fn still_headers(l: &[u8; 80], headers: bool) -> bool
-    ensures value { result ≡ (headers && is_header l.now) }
-{
-    if !headers {
-        return false;
-    }
-    fits::is_header(l)
-}
-
 // 3 to 6, line by line.
 fn lines_fit(how: Reading, f: &[u8], i: u8) -> Verdict
     requires { (sheet_of how f.now).count ≤ most_lines }
@@ -100,27 +85,19 @@ fn lines_fit(how: Reading, f: &[u8], i: u8) -> Verdict
 {
     let n = lines::line_count(how, f);
     let mut headers = true;
-    let mut k = 0;
-    while k < n {
+    for k in 0..n {
         let l = lines::line_of(how, f, k);
-        let v = line_fits(how, f, &l, i, k, headers);
-        if let Verdict::Refused(_, _, _, _) = v {
-            return v;
-        }
-        headers = still_headers(&l, headers);
-        k += 1;
+        line_fits(how, f, &l, i, k, headers)?;
+        headers = headers && fits::is_header(&l);
     }
-    Verdict::Fine
+    Ok(())
 }
 
 // The form of file i (R 1, S 2, X 3).
 pub fn file_fits(how: Reading, f: &[u8], i: u8) -> Verdict
     ensures verdict { paper result ≡ run (form_of i (sheet_of how f.now)) }
 {
-    let v = lines::length_fits(how, f, i);
-    if let Verdict::Refused(_, _, _, _) = v {
-        return v;
-    }
+    lines::length_fits(how, f, i)?;
     lines_fit(how, f, i)
 }
 
@@ -130,7 +107,7 @@ pub fn form(how: Reading, kind: u64, f: &[u8]) -> Verdict
 {
     let i = lines::kind_of(kind);
     if i == 0 {
-        return Verdict::Refused(20, 0, 0, 0);
+        return Err(lines::unplaced(20));
     }
     file_fits(how, f, i)
 }

@@ -7,8 +7,6 @@ use Rattle.lines.specs.Reading.{medium_on, chosen_by}
 use Rattle.lines.specs.declared.Medium.{Medium}
 use Rattle.lines.specs.declared.Medium.TheVariants.{Disc, Tape}
 use Rattle.lines.specs.declared.Reading.{Reading}
-use Rattle.lines.specs.declared.Choice.{Choice}
-use Rattle.lines.specs.declared.Choice.TheVariants.{On, None}
 use Rattle.outcome.specs.One.{One, alike}
 use Rattle.lines.specs.contracts.at_line as at_line
 use Rattle.lines.proofs.at_line.Reads as at_line_reads
@@ -49,15 +47,24 @@ use Rattle.lines.proofs.show.Reads as show_reads
 use contract.Lifetimes.{Lfts}
 use borrow.Fn.World.{ArgsD, ResD}
 use denote.Triple.Clauses.{AtExit}
-use Rattle.lines.specs.Paper.{paper}
-use Rattle.lines.specs.declared.Verdict.{Verdict}
-use Rattle.lines.specs.declared.Verdict.TheVariants.{Fine, Refused}
+use Rattle.lines.specs.Paper.{told, paper}
+use Rattle.std.specs.Prelude.{Result, Ok, Err, Option, Some, None}
+use Rattle.lines.specs.declared.Refusal.{Refusal}
 
-pub verdict_one : (a b : Verdict) → paper a ≡ paper b → a ≡ b
-verdict_one Fine Fine e = refl
-verdict_one Fine (Refused n f l c) e = cc
-verdict_one (Refused n f l c) Fine e = cc
-verdict_one (Refused n f l c) (Refused n' f' l' c') e = cc
+refusal_one : (d d' : Refusal) → d.number ≡ d'.number → d.file ≡ d'.file → d.line ≡ d'.line → d.column ≡ d'.column → d ≡ d'
+refusal_one d d' n f l c =
+    let same : ◌≡◌ {A = Refusal} (record { number = d.number; file = d.file; line = d.line; column = d.column })
+    (record { number = d'.number; file = d'.file; line = d'.line; column = d'.column }) = cc in
+    same
+
+pub told_one : (d d' : Refusal) → told d ≡ told d' → d ≡ d'
+told_one d d' e = refusal_one d d' (cc) (cc) (cc) (cc)
+
+pub verdict_one : (a b : Result (Unit {0}) Refusal) → paper a ≡ paper b → a ≡ b
+verdict_one (Ok u) (Ok v) e = refl
+verdict_one (Ok u) (Err d) e = cc
+verdict_one (Err d) (Ok u) e = cc
+verdict_one (Err d) (Err d') e = ap Err (refusal_one d d' (cc) (cc) (cc) (cc))
 
 pub disc_one : One disc.ended disc_reads.Post
 disc_one κs a v v' w w' = alike
@@ -67,17 +74,17 @@ width : PaperChoice → ℕ
 width (on M) = M.stride
 width none = 0
 
-choice_one : (a b : Choice) → chosen_by a ≡ chosen_by b → a ≡ b
+choice_one : (a b : Option Reading) → chosen_by a ≡ chosen_by b → a ≡ b
 unfolding disc tape width
-choice_one (On how) (On other) e = ap On (reading_one how.medium other.medium (ap width e))
+choice_one (Some how) (Some other) e = ap Some (reading_one how.medium other.medium (ap width e))
   where
     reading_one : (m n : Medium) → (medium_on m).stride ≡ (medium_on n).stride → ◌≡◌ {A = Reading} (record { medium = m }) (record { medium = n })
     reading_one Disc Disc z = refl
     reading_one Disc Tape z = absurd (omega arith)
     reading_one Tape Disc z = absurd (omega arith)
     reading_one Tape Tape z = refl
-choice_one (On how) None e = absurd (let z : ◌≡◌ {A = ℕ} 0 1 = cc in omega arith)
-choice_one None (On how) e = absurd (let z : ◌≡◌ {A = ℕ} 0 1 = cc in omega arith)
+choice_one (Some how) None e = absurd (let z : ◌≡◌ {A = ℕ} 0 1 = cc in omega arith)
+choice_one None (Some how) e = absurd (let z : ◌≡◌ {A = ℕ} 0 1 = cc in omega arith)
 choice_one None None e = refl
 
 pub chosen_one : One chosen.ended chosen_reads.Post

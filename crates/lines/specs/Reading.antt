@@ -6,7 +6,7 @@
 --   columns_at f a  = the 80 bytes from a on
 --   IsPage cs      = these 256 bytes are the code page of the tape
 --   Printed b      = what a byte of columns 1 to 80 may be
-use Rattle.std.specs.Prelude.{◌≡◌, ℕ, ◌<◌, ◌≤◌, List, take, drop, slice_index}
+use Rattle.std.specs.Prelude.{◌≡◌, ℕ, ◌<◌, ◌≤◌, List, take, drop, slice_index, Option, Some, None}
 use Rattle.rules.specs.Sheet.{Sheet}
 use Rattle.rules.specs.Layout.{sps93}
 use Rattle.rules.specs.Medium.{Medium as PaperMedium, sheet}
@@ -16,8 +16,6 @@ use Rattle.rules.specs.Calls.{Choice as PaperChoice, on, none}
 use Rattle.lines.specs.declared.Medium.{Medium}
 use Rattle.lines.specs.declared.Medium.TheVariants.{Disc, Tape}
 use Rattle.lines.specs.declared.Reading.{Reading}
-use Rattle.lines.specs.declared.Choice.{Choice}
-use Rattle.lines.specs.declared.Choice.TheVariants.{On, None}
 
 abbrev pub on_disc : Reading
 on_disc = record { medium = Disc }
@@ -29,8 +27,8 @@ medium_on Tape = tape
 abbrev pub medium_of : Reading → PaperMedium
 medium_of how = medium_on how.medium
 
-abbrev pub chosen_by : Choice → PaperChoice
-chosen_by (On how) = on (medium_of how)
+abbrev pub chosen_by : Option Reading → PaperChoice
+chosen_by (Some how) = on (medium_of how)
 chosen_by None = none
 
 unfoldable pub sheet_of : Reading → List ℕ → Sheet

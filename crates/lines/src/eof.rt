@@ -32,12 +32,10 @@ pub fn first_eof(f: &[u8], n: usize) -> usize
     requires { 80 * n ≤ length f.now }
     ensures value { result ≡ least n (λ k. tape.ends (take 80 (drop (80 * k) f.now))) }
 {
-    let mut k = 0;
-    while k < n {
+    for k in 0..n {
         if says_eof(f, 80 * k) {
             return k;
         }
-        k += 1;
     }
     n
 }

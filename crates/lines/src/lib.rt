@@ -11,7 +11,7 @@ ghost use Rattle.rules.specs.Calls.{choice as choice_of};
 ghost use Rattle.rules.specs.MeetsDisc.{Proper};
 ghost use Rattle.rules.specs.Form.{stray as stray_of, ending as ending_of, rule1, rule2, rule29};
 ghost use Rattle.rules.specs.Show.{shown as columns_of, start, of_s, show as show_of, start_in};
-ghost use Rattle.lines.specs.Paper.{paper, into};
+ghost use Rattle.lines.specs.Paper.{paper, told, into};
 ghost use Rattle.lines.specs.Reading.{on_disc, medium_of, chosen_by, sheet_of, columns_at, Printed};
 
 mod eof;
@@ -24,12 +24,17 @@ pub use letters::{kind_of, letter};
 // At most so many lines a file.
 pub const MOST_LINES: usize = 9999;
 
-// What a check says of a file or a set: nothing to refuse, or number, file (R 1, S 2, X 3), line and column.
-#[derive(Clone, Copy)]
-pub enum Verdict {
-    Fine,
-    Refused(u8, u8, u32, u8),
+// What a file or a set is refused for: the number, and where: the file (R 1, S 2, X 3), the line and the column, from 1; 0 where there is none.
+#[derive(Clone, Copy, Debug, PartialEq, Eq)]
+pub struct Refusal {
+    pub number: u8,
+    pub file: u8,
+    pub line: u32,
+    pub column: u8,
 }
+
+// What a check says of a file or a set: nothing, or what it is refused for.
+pub type Verdict = Result<(), Refusal>;
 
 // The form in which files come.
 #[derive(Clone, Copy)]
@@ -53,25 +58,18 @@ pub fn disc() -> Reading
     }
 }
 
-// What a caller's number says of the medium: how files are read, or nothing.
-#[derive(Clone, Copy)]
-pub enum Choice {
-    On(Reading),
-    None,
-}
-
 // The medium of a caller's number: 1 the disc form, 2 the tape form, any other none.
-pub fn chosen(medium: u64) -> Choice
+pub fn chosen(medium: u64) -> Option<Reading>
     ensures value { chosen_by result ≡ choice_of medium }
 {
     match medium {
-        1 => Choice::On(Reading {
+        1 => Some(Reading {
             medium: Medium::Disc,
         }),
-        2 => Choice::On(Reading {
+        2 => Some(Reading {
             medium: Medium::Tape,
         }),
-        _ => Choice::None,
+        _ => None,
     }
 }
 
@@ -97,12 +95,29 @@ fn closing(how: Reading) -> usize
     }
 }
 
+// A refusal that has no place.
+pub fn unplaced(number: u8) -> Refusal
+    ensures value { told result ≡ № number 0 0 0 }
+{
+    Refusal {
+        number,
+        file: 0,
+        line: 0,
+        column: 0,
+    }
+}
+
 // Refusal n of file i, at column c of line k, from 0.
 pub fn at_line(n: u8, i: u8, k: usize, c: u8) -> Verdict
     requires { k < 4294967295 }
     ensures verdict { paper result ≡ refused (№ n i (k + 1) c) }
 {
-    Verdict::Refused(n, i, k as u32 + 1, c)
+    Err(Refusal {
+        number: n,
+        file: i,
+        line: k as u32 + 1,
+        column: c,
+    })
 }
 
 // How many lines of the set a file has.
@@ -136,7 +151,7 @@ fn end_fits(how: Reading, f: &[u8], i: u8) -> Verdict
     let n = f.len() / stride(how);
     let e = ending(how, f);
     if e + closing(how) == n {
-        return Verdict::Fine;
+        return Ok(());
     }
     if e < n {
         return at_line(29, i, e + 1, 0);
@@ -169,11 +184,7 @@ fn columns(f: &[u8], at: usize) -> [u8; 80]
     ensures value { result ≡ columns_at f.now at }
 {
     let mut l = [0; 80];
-    let mut c = 0;
-    while c < 80 {
-        l[c] = f[at + c];
-        c += 1;
-    }
+    l.copy_from_slice(&f[at..at + 80]);
     l
 }
 

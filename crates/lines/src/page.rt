@@ -50,14 +50,7 @@ pub fn translated(l: [u8; 80]) -> [u8; 80]
 pub fn all_taken(t: [u8; 80]) -> bool
     ensures value { result ≡ true → (c : ℕ) → c < 80 → slice_index t c ≢ 0 }
 {
-    let mut c = 0;
-    while c < 80 {
-        if t[c] == 0 {
-            return false;
-        }
-        c += 1;
-    }
-    true
+    t.iter().all(|c| *c != 0)
 }
 
 // The byte of a capital letter.

@@ -33,13 +33,12 @@ fn all_printed(f: &[u8], at: usize) -> bool
     requires { at + 80 ≤ length f.now }
     ensures value { result ≡ true → (c : ℕ) → c < 80 → Printed (slice_index f.now (at + c)) }
 {
-    let mut m: u8 = 0;
-    let mut c = 0;
-    while c < 80 {
-        m = greater(m, f[at + c]);
-        c += 1;
+    let columns = &f[at..at + 80];
+    let mut most = 0;
+    for b in columns {
+        most = greater(most, *b);
     }
-    m <= 94
+    most <= 94
 }
 
 // The 82 bytes from `at` on are a line of the disc form.

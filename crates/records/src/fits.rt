@@ -81,7 +81,7 @@ fn fields_fit(l: &[u8; 80], t: Table, marker: bool, i: u8, k: usize) -> Verdict
         }
         j += 1;
     }
-    Verdict::Fine
+    Ok(())
 }
 
 // 5 of line k, from 0, of file i: all rows at once, and one by one only where a field is bad.
@@ -91,19 +91,19 @@ pub fn rule5(l: &[u8; 80], i: u8, k: usize) -> Verdict
 {
     if is_header(l) {
         if straight::header_fits(l) {
-            return Verdict::Fine;
+            return Ok(());
         }
         return fields_fit(l, Table::Header, false, i, k);
     }
     if i == 3 {
         if straight::relation_fits(l) {
-            return Verdict::Fine;
+            return Ok(());
         }
         return fields_fit(l, Table::Relation, false, i, k);
     }
     let marker = is_marker(l);
     if straight::point_fits(l, i, marker) {
-        return Verdict::Fine;
+        return Ok(());
     }
     fields_fit(l, Table::Point(i), marker, i, k)
 }
@@ -127,7 +127,7 @@ pub fn counts(q: Reach, k: usize) -> Verdict
     if n / i != cover::receivers(q) {
         return lines::at_line(6, 3, k, 72);
     }
-    Verdict::Fine
+    Ok(())
 }
 
 // 6 of line k of X, from 0.

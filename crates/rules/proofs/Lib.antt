@@ -54,3 +54,4 @@ pub mod Tables
 pub mod ListedSizes
 pub mod Listed
 pub mod Hosts
+pub mod Plans

@@ -1,10 +1,7 @@
--- What the loops of `lines::proper::all_printed` keep.
-use Rattle.std.proofs.Common.{◌-◌, ◌≤◌}
-use Rattle.lines.proofs.Laws.{PrintedTo}
+-- What the loop of `lines::proper::all_printed` keeps.
+use Rattle.std.proofs.Common.{ℕ, ◌≤◌, ◌<◌, get_or}
+use Rattle.lines.specs.Reading.{Printed}
 use Rattle.lines.proofs.proper.all_printed.Given as goal
 
-abbrev pub invariant-loop-c : goal.invariant-loop-c
-invariant-loop-c l = (l.c ≤ 80) × PrintedTo l.f l.at l.m l.c
-
-abbrev pub decreases-loop-c : goal.decreases-loop-c
-decreases-loop-c l = 80 - l.c
+abbrev pub invariant-loop-b : goal.invariant-loop-b
+invariant-loop-b l = l.most ≤ 94 → (k : ℕ) → k < l.b-index → Printed (get_or l.columns k 0)
