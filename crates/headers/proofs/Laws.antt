@@ -10,7 +10,7 @@ use lib.ListN.{length, get_or, drop, drop_of_length-le}
 use lib.Seq.{drop-cons}
 use borrow.Author.Tests.{eq-eqb, ne_eqb}
 use Rattle.rules.specs.Places.{every}
-use Rattle.rules.specs.Plan.{Verdict as PaperVerdict, fine, refused, №, Plan, ◌before◌, need, up_to, run}
+use Rattle.rules.specs.Plan.{Refusal as PaperRefusal, Verdict as PaperVerdict, fine, refused, №, Plan, ◌before◌, need, run}
 use Rattle.rules.specs.Text.{cols, same, blank}
 use Rattle.rules.specs.Layout.{Layout, sps93, at}
 use Rattle.rules.specs.Sheet.{Sheet}
@@ -19,11 +19,7 @@ use Rattle.rules.specs.Headers.{two_digits, is_type, projection, same_columns, r
 use Rattle.rules.proofs.Least.{least_below}
 use Rattle.rules.proofs.Steps.{every_stop, need_met, need_broken, before_met, before_broken, when_on, when_off}
 use Rattle.fields.proofs.Codes.{two_columns}
-use Rattle.lines.specs.declared.Verdict.{Verdict}
-use Rattle.lines.specs.declared.Verdict.TheVariants.{Fine, Refused}
-use Rattle.lines.specs.Paper.{paper}
-use Rattle.form.proofs.Laws.{is_met, stops_at}
-use Rattle.headers.specs.Steps.{has_type, names, named, same_lines, headers_fit}
+use Rattle.headers.specs.Steps.{has_type, names, named, same_lines}
 
 pub heads_below : (f : Sheet) (n : ℕ) → n ≡ heads f → n ≤ f.count
 unfolding heads
@@ -119,36 +115,16 @@ module _ (r f : Sheet) (a b n : ℕ) (p : a ≡ heads r) (q : b ≡ heads f) (s 
       let w = heads_below f b q in
       (omega arith, omega arith)
 
-  module _ (i : ℕ) (v : Verdict) (e : paper v ≡ run (same_lines i r f n)) where
+  module _ (i : ℕ) where
     whole_nine : run (same_lines i r f n before need (eqb a b) (№ 9 i (n + 1) 0)) ≡ run (rule9 i r f)
     unfolding same_lines rule9
     whole_nine = rw (s, p, q)
 
-    pub nine_stops : {k l m o : ℕ} → v ≡ Refused k l m o → paper v ≡ run (rule9 i r f)
-    nine_stops z = stops_at v _ e z _ ∙ whole_nine
+    pub nine_stops : {w : PaperRefusal} → refused w ≡ run (same_lines i r f n) → refused w ≡ run (rule9 i r f)
+    nine_stops e = before_broken _ _ _ e ∙ whole_nine
 
-    pub nine_same : v ≡ Fine → a ≡ b → fine ≡ run (rule9 i r f)
-    nine_same z y = need_met _ _ (eq-eqb a b y) ∙ before_met _ _ (is_met v _ e z) ∙ whole_nine
+    pub nine_same : fine ≡ run (same_lines i r f n) → a ≡ b → fine ≡ run (rule9 i r f)
+    nine_same e y = need_met _ _ (eq-eqb a b y) ∙ before_met _ _ e ∙ whole_nine
 
-    pub nine_other : v ≡ Fine → (a ≡ b → ⊥) → refused (№ 9 i (n + 1) 0) ≡ run (rule9 i r f)
-    nine_other z y = need_broken _ _ (ne_eqb a b y) ∙ before_met _ _ (is_met v _ e z) ∙ whole_nine
-
--- 7, 8, then 9 of S and of X: the verdict of each as far as the code comes
-module _ (r s x : Sheet) (u : Verdict) (p : paper u ≡ run (rule7 r)) where
-  pub breaks_7 : {k l m o : ℕ} → u ≡ Refused k l m o → paper u ≡ run (headers_fit r s x)
-  unfolding headers_fit
-  breaks_7 z = stops_at u _ p z _
-
-  module _ (a : u ≡ Fine) (v : Verdict) (q : paper v ≡ run (up_to (heads r) (rule8 r))) where
-    pub breaks_8 : {k l m o : ℕ} → v ≡ Refused k l m o → paper v ≡ run (headers_fit r s x)
-    unfolding headers_fit
-    breaks_8 z = stops_at v _ q z _ ∙ before_met _ _ (is_met u _ p a)
-
-    module _ (b : v ≡ Fine) (w : Verdict) (t : paper w ≡ run (rule9 2 r s)) where
-      pub breaks_9 : {k l m o : ℕ} → w ≡ Refused k l m o → paper w ≡ run (headers_fit r s x)
-      unfolding headers_fit
-      breaks_9 z = stops_at w _ t z _ ∙ before_met _ _ (is_met v _ q b) ∙ before_met _ _ (is_met u _ p a)
-
-      pub last_9 : w ≡ Fine → (y : Verdict) → paper y ≡ run (rule9 3 r x) → paper y ≡ run (headers_fit r s x)
-      unfolding headers_fit
-      last_9 z y g = g ∙ before_met _ _ (is_met w _ t z) ∙ before_met _ _ (is_met v _ q b) ∙ before_met _ _ (is_met u _ p a)
+    pub nine_other : fine ≡ run (same_lines i r f n) → (a ≡ b → ⊥) → refused (№ 9 i (n + 1) 0) ≡ run (rule9 i r f)
+    nine_other e y = need_broken _ _ (ne_eqb a b y) ∙ before_met _ _ e ∙ whole_nine

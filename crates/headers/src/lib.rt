@@ -1,6 +1,6 @@
 #![tactic(auto)]
 // The headers: 7 and 8 of R, then 9 of S and of X against R, each the first breach in the paper's order.
-ghost use Rattle.std.specs.Prelude.{◌≡◌, ◌≤◌, ◌<◌, min, length};
+ghost use Rattle.std.specs.Prelude.{◌≡◌, ◌≤◌, ◌<◌, length};
 ghost use Rattle.rules.specs.Plan.{run, up_to};
 ghost use Rattle.rules.specs.Layout.{sps93};
 ghost use Rattle.rules.specs.Sheet.{most_lines};
@@ -21,13 +21,11 @@ pub fn heads(how: Reading, f: &[u8]) -> usize
     ensures value { result ≡ heads_of (sheet_of how f.now) }
 {
     let n = lines::line_count(how, f);
-    let mut k = 0;
-    while k < n {
+    for k in 0..n {
         let l = lines::line_of(how, f, k);
         if !fits::is_header(&l) {
             return k;
         }
-        k += 1;
     }
     n
 }
@@ -37,10 +35,7 @@ fn is_type(l: &[u8; 80], t: u8) -> bool
     requires { t < 100 }
     ensures value { result ≡ is_type sps93 t l.now }
 {
-    if !bytes::two(l[1], l[2], 48 + t / 10, 48 + t % 10) {
-        return false;
-    }
-    bytes::blank(l, 4, 4)
+    bytes::two(l[1], l[2], 48 + t / 10, 48 + t % 10) && bytes::blank(l, 4, 4)
 }
 
 // One of the first n lines is of type t.
@@ -48,13 +43,11 @@ fn has_type(how: Reading, f: &[u8], n: usize, t: u8) -> bool
     requires { (n ≤ (sheet_of how f.now).count) × (t < 100) }
     ensures value { result ≡ has_type (sheet_of how f.now) n t }
 {
-    let mut k = 0;
-    while k < n {
+    for k in 0..n {
         let l = lines::line_of(how, f, k);
         if is_type(&l, t) {
             return true;
         }
-        k += 1;
     }
     false
 }
@@ -65,14 +58,12 @@ pub fn rule7(how: Reading, r: &[u8]) -> Verdict
     ensures verdict { paper result ≡ run (rule7_of (sheet_of how r.now)) }
 {
     let n = heads(how, r);
-    let mut t = 0;
-    while t < 21 {
+    for t in 0..21 {
         if !has_type(how, r, n, t) {
             return lines::at_line(7, 1, n, 0);
         }
-        t += 1;
     }
-    Verdict::Fine
+    Ok(())
 }
 
 // 8 of line k.
@@ -80,11 +71,8 @@ fn line_names(l: &[u8; 80], k: usize) -> Verdict
     requires { k < most_lines }
     ensures verdict { paper result ≡ run (named sps93 k l.now) }
 {
-    if !is_type(l, 18) {
-        return Verdict::Fine;
-    }
-    if text::names_projection(l) {
-        return Verdict::Fine;
+    if !is_type(l, 18) || text::names_projection(l) {
+        return Ok(());
     }
     lines::at_line(8, 1, k, 33)
 }
@@ -95,16 +83,11 @@ pub fn rule8(how: Reading, r: &[u8]) -> Verdict
     ensures verdict { paper result ≡ run (up_to (heads_of (sheet_of how r.now)) (rule8_of (sheet_of how r.now))) }
 {
     let n = heads(how, r);
-    let mut k = 0;
-    while k < n {
+    for k in 0..n {
         let l = lines::line_of(how, r, k);
-        let v = line_names(&l, k);
-        if let Verdict::Refused(_, _, _, _) = v {
-            return v;
-        }
-        k += 1;
+        line_names(&l, k)?;
     }
-    Verdict::Fine
+    Ok(())
 }
 
 // 9 of line k of file i, column by column.
@@ -112,14 +95,12 @@ fn same_columns(i: u8, k: usize, l: &[u8; 80], m: &[u8; 80]) -> Verdict
     requires { (k < most_lines) × ((length l.now ≡ 80) × (length m.now ≡ 80)) }
     ensures verdict { paper result ≡ run (same_columns i k 1 l.now m.now) }
 {
-    let mut c: usize = 0;
-    while c < 80 {
+    for c in 0..80 {
         if l[c] != m[c] {
             return lines::at_line(9, i, k, c as u8 + 1);
         }
-        c += 1;
     }
-    Verdict::Fine
+    Ok(())
 }
 
 // 9 of the first n lines of file i, which R has too.
@@ -127,27 +108,12 @@ fn same_lines(how: Reading, i: u8, r: &[u8], f: &[u8], n: usize) -> Verdict
     requires { (n ≤ most_lines) × ((n ≤ (sheet_of how r.now).count) × (n ≤ (sheet_of how f.now).count)) }
     ensures verdict { paper result ≡ run (same_lines i (sheet_of how r.now) (sheet_of how f.now) n) }
 {
-    let mut k = 0;
-    while k < n {
+    for k in 0..n {
         let l = lines::line_of(how, r, k);
         let m = lines::line_of(how, f, k);
-        let v = same_columns(i, k, &l, &m);
-        if let Verdict::Refused(_, _, _, _) = v {
-            return v;
-        }
-        k += 1;
+        same_columns(i, k, &l, &m)?;
     }
-    Verdict::Fine
-}
-
-// The smaller of two numbers.
-fn smaller(a: usize, b: usize) -> usize
-    ensures value { result ≡ min a b }
-{
-    if a < b {
-        return a;
-    }
-    b
+    Ok(())
 }
 
 // 9: the header of file i is R's, line by line, then by the number of lines.
@@ -157,35 +123,24 @@ pub fn rule9(how: Reading, i: u8, r: &[u8], f: &[u8]) -> Verdict
 {
     let a = heads(how, r);
     let b = heads(how, f);
-    let n = smaller(a, b);
-    let v = same_lines(how, i, r, f, n);
-    if let Verdict::Refused(_, _, _, _) = v {
-        return v;
-    }
+    let n = a.min(b);
+    same_lines(how, i, r, f, n)?;
     if a == b {
-        return Verdict::Fine;
+        return Ok(());
     }
     lines::at_line(9, i, n, 0)
 }
 
 // 7, 8, then 9 of S and of X.
+#[tactic(auto, using(rules::proofs::Plans::plans), unfolding(crate::specs::Steps::headers_fit))]
 pub fn headers_fit(how: Reading, r: &[u8], s: &[u8], x: &[u8]) -> Verdict
     requires r_bound { (sheet_of how r.now).count ≤ most_lines }
     requires s_bound { (sheet_of how s.now).count ≤ most_lines }
     requires x_bound { (sheet_of how x.now).count ≤ most_lines }
     ensures verdict { paper result ≡ run (headers_fit (sheet_of how r.now) (sheet_of how s.now) (sheet_of how x.now)) }
 {
-    let types = rule7(how, r);
-    if let Verdict::Refused(_, _, _, _) = types {
-        return types;
-    }
-    let projections = rule8(how, r);
-    if let Verdict::Refused(_, _, _, _) = projections {
-        return projections;
-    }
-    let of_s = rule9(how, 2, r, s);
-    if let Verdict::Refused(_, _, _, _) = of_s {
-        return of_s;
-    }
+    rule7(how, r)?;
+    rule8(how, r)?;
+    rule9(how, 2, r, s)?;
     rule9(how, 3, r, x)
 }

@@ -9,15 +9,13 @@ fn ends(l: &[u8; 80], a: usize) -> bool
     requires { 1 ≤ a }
     ensures value { result ≡ is_blank (cut (cols l.now a 80)) }
 {
-    let mut c = a;
-    while c <= 80 {
+    for c in a..81 {
         if l[c - 1] == b';' {
             return true;
         }
         if l[c - 1] != 32 {
             return false;
         }
-        c += 1;
     }
     true
 }
@@ -30,16 +28,7 @@ fn names_at(l: &[u8; 80], c: usize) -> bool
     if l[c - 1] == b';' {
         return false;
     }
-    if l[c - 1] != b'N' {
-        return true;
-    }
-    if 78 < c {
-        return true;
-    }
-    if l[c] != b'/' {
-        return true;
-    }
-    if l[c + 1] != b'A' {
+    if l[c - 1] != b'N' || 78 < c || l[c] != b'/' || l[c + 1] != b'A' {
         return true;
     }
     !ends(l, c + 3)
@@ -49,12 +38,10 @@ fn names_at(l: &[u8; 80], c: usize) -> bool
 pub fn names_projection(l: &[u8; 80]) -> bool
     ensures value { result ≡ names (cols l.now 33 80) }
 {
-    let mut c = 33;
-    while c <= 80 {
+    for c in 33..81 {
         if l[c - 1] != 32 {
             return names_at(l, c);
         }
-        c += 1;
     }
     false
 }

@@ -1,17 +1,16 @@
 -- What `headers::has_type` leaves to show.
-use Prim.Native.Nat.{ℕ}
 use Rattle.headers.specs.Steps.{has_type}
 use Rattle.rules.proofs.Steps.{some_more, some_none, some_stop}
 use Rattle.lines.specs.Reading.{sheet_of}
 use Rattle.lines.proofs.Sheets.{layout_is}
 use Rattle.headers.proofs.Laws.{type_here}
-use mathlib.Core.Path.{◌∙◌, ap, sym}
+use mathlib.Core.Path.{◌∙◌, sym}
 use native.Mathlib.Omega.{arith}
 use Rattle.headers.proofs.has_type.Goals as goal
 
 pub loop-k-init : goal.loop-k-init
 unfolding has_type
-loop-k-init c = (omega arith, some_none _)
+loop-k-init c = some_none _
 
 pub returns-then-is_type : goal.returns-then-is_type
 unfolding has_type
@@ -29,11 +28,4 @@ loop-k-preserved c = let at = c.loop-k in
     let a = c.args in
     let q = type_here (sheet_of a.how a.f.now) _ (layout_is a.how a.f.now) _ at.k
     c.line_of-l.ensures.value _ _ c.is_type.ensures.value in
-    (omega arith, some_more _ _ at.invariant.1 (sym q ∙ c.if-is_type.false))
-
-pub returns : goal.returns
-returns c = record {
-  value = let at = c.loop-k in
-      let a = c.args in
-      sym at.invariant.1 ∙ ap (λ (k : ℕ). has_type (sheet_of a.how a.f.now) k a.t) (omega arith);
-}
+    some_more _ _ at.invariant (sym q ∙ c.if-is_type.false)

@@ -11,30 +11,25 @@ use mathlib.Core.Bool.{not}
 use Rattle.headers.proofs.heads.Goals as goal
 
 pub loop-k-init : goal.loop-k-init
-loop-k-init c = (omega arith, least_none_yet _)
+loop-k-init c = least_none_yet _
 
 pub returns-then-not-is_header : goal.returns-then-not-is_header
 unfolding heads
 returns-then-not-is_header c = record {
   value = let at = c.loop-k in
       let n = c.line_count-n.ensures.value in
-      sym (least_stop _ _ _ (omega arith) at.invariant.1
+      sym (least_stop _ _ _ (omega arith) at.invariant
       (sym (data_here _ _ _ c.line_of-l.ensures.value _ c.is_header.ensures.value) ∙ (ap not c.if-not-is_header.true)));
 }
 
 pub loop-k-preserved : goal.loop-k-preserved
-loop-k-preserved c = let at = c.loop-k in (
-  omega arith,
-  least_more _ _ at.invariant.1
-      (sym (data_here _ _ _ c.line_of-l.ensures.value _ c.is_header.ensures.value) ∙ (ap not c.if-not-is_header.false)),
-)
+loop-k-preserved c = least_more _ _ c.loop-k.invariant
+    (sym (data_here _ _ _ c.line_of-l.ensures.value _ c.is_header.ensures.value) ∙ (ap not c.if-not-is_header.false))
 
 pub returns : goal.returns
 unfolding heads
 returns c = record {
-  value = let at = c.loop-k in
-      let n = c.line_count-n.ensures.value in
-      let z : c.line_count-n.result ≡ at.k = omega arith in
-      let a = c.args in
-      z ∙ sym at.invariant.1 ∙ ap (λ (k : ℕ). least k (is_data (sheet_of a.how a.f.now))) (omega arith);
+  value = let a = c.args in
+      let e : c.line_count-n.result ≡ c.loop-k.k = omega arith in
+      e ∙ sym c.loop-k.invariant ∙ ap (λ (k : ℕ). least k (is_data (sheet_of a.how a.f.now))) (sym e ∙ c.line_count-n.ensures.value);
 }

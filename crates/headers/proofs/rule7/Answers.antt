@@ -11,7 +11,7 @@ use Rattle.headers.proofs.Laws.{heads_below, seven_broken, seven_met}
 use Rattle.headers.proofs.rule7.Goals as goal
 
 pub loop-t-init : goal.loop-t-init
-loop-t-init c = (omega arith, every_none _)
+loop-t-init c = every_none _
 
 pub has_type-requires : goal.has_type-requires
 has_type-requires c = (heads_below _ _ c.heads-n.ensures.value, omega arith)
@@ -28,7 +28,7 @@ returns-then-not-has_type c = record {
 }
 
 pub loop-t-preserved : goal.loop-t-preserved
-loop-t-preserved c = (omega arith, every_more _ _ c.loop-t.invariant.1 (sym c.has_type.ensures.value ∙ c.if-not-has_type.false))
+loop-t-preserved c = every_more _ _ c.loop-t.invariant (sym c.has_type.ensures.value ∙ c.if-not-has_type.false)
 
 pub returns : goal.returns
 returns c = record {
@@ -36,5 +36,5 @@ returns c = record {
       let a = c.args in
       let n = c.heads-n.result in
       seven_met _ _ c.heads-n.ensures.value
-      (ap (λ (t : ℕ). every t (has_type (sheet_of a.how a.r.now) n)) (omega arith) ∙ at.invariant.1);
+      (ap (λ (t : ℕ). every t (has_type (sheet_of a.how a.r.now) n)) (omega arith) ∙ at.invariant);
 }

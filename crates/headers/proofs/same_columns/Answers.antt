@@ -14,17 +14,17 @@ pub returns-then-l-c : goal.returns-then-l-c
 returns-then-l-c c = record {
   verdict = let at = c.loop-c in
       let p = c.requires in
-      c.at_line.ensures.verdict ∙ columns_stop _ _ _ _ _ p.1.0 p.1.1 _ at.invariant.1 (omega arith) c.if-l-c.true;
+      c.at_line.ensures.verdict ∙ columns_stop _ _ _ _ _ p.1.0 p.1.1 _ at.invariant (omega arith) c.if-l-c.true;
 }
 
 pub loop-c-preserved : goal.loop-c-preserved
 loop-c-preserved c = let at = c.loop-c in
     let p = c.requires in
-    (omega arith, columns_step _ _ _ _ _ p.1.0 p.1.1 _ at.invariant.1 (omega arith) c.if-l-c.false)
+    columns_step _ _ _ _ _ p.1.0 p.1.1 _ at.invariant (omega arith) c.if-l-c.false
 
 pub returns : goal.returns
 returns c = record {
   verdict = let at = c.loop-c in
       let p = c.requires in
-      columns_end _ _ _ _ _ p.1.0 p.1.1 _ at.invariant.1 (omega arith);
+      columns_end _ _ _ _ _ p.1.0 p.1.1 _ at.invariant (omega arith);
 }

@@ -1,25 +1,18 @@
 -- What `headers::same_lines` leaves to show.
-use Prim.Native.Nat.{ℕ}
-use Rattle.form.proofs.Laws.{is_broken, is_met}
-use Rattle.headers.proofs.Laws.{nine_row}
-use Rattle.headers.specs.Steps.{same_lines}
-use Rattle.lines.specs.Paper.{paper}
-use Rattle.lines.specs.Reading.{sheet_of}
-use Rattle.lines.proofs.Sheets.{row_length}
+use Rattle.std.proofs.Common.{◌∙◌, ap, length, arith}
+use Rattle.std.proofs.lemmas.Result.{err_from_is_err_and}
 use Rattle.rules.proofs.Steps.{none_yet, one_more, stops_here}
-use Rattle.rules.specs.Plan.{run}
-use Rattle.rules.specs.Headers.{same_columns}
-use lib.ListN.{length}
-use mathlib.Core.Path.{◌∙◌, ap}
-use native.Mathlib.Omega.{arith}
+use Rattle.lines.proofs.Sheets.{row_length}
+use Rattle.headers.specs.Steps.{same_lines}
+use Rattle.headers.proofs.Laws.{nine_row}
 use Rattle.headers.proofs.same_lines.Goals as goal
 
 pub loop-k-init : goal.loop-k-init
 unfolding same_lines
-loop-k-init c = (omega arith, none_yet _)
+loop-k-init c = none_yet _
 
-pub same_columns-v-requires : goal.same_columns-v-requires
-same_columns-v-requires c = let at = c.loop-k in
+pub same_columns-requires : goal.same_columns-requires
+same_columns-requires c = let at = c.loop-k in
     let a = c.args in
     let p = c.requires in (
       omega arith,
@@ -29,30 +22,17 @@ same_columns-v-requires c = let at = c.loop-k in
       ),
     )
 
-pub returns-in-Refused : goal.returns-in-Refused
+pub returns-in_err-same_columns : goal.returns-in_err-same_columns
 unfolding same_lines
-returns-in-Refused c = record {
-  verdict = let at = c.loop-k in
-      let a = c.args in
-      ap paper c.in-Refused.is
-      ∙ stops_here _ _ _ _ (omega arith) at.invariant.1
-      (is_broken _ (same_columns a.i at.k 1 c.line_of-l.result c.line_of-m.result) c.same_columns-v.ensures.verdict c.in-Refused.is
-      ∙ nine_row _ _ _ _ _ _ c.line_of-l.ensures.value c.line_of-m.ensures.value);
+returns-in_err-same_columns c = record {
+  verdict = let p = err_from_is_err_and c.from_residual.result c.from_residual.ensures.1 in
+      rw (p.1, p.2)
+      (stops_here _ _ _ _ (omega arith) c.loop-k.invariant
+      (c.in_err-same_columns.ensures.verdict ∙ nine_row _ _ _ _ _ _ c.line_of-l.ensures.value c.line_of-m.ensures.value));
 }
 
 pub loop-k-preserved : goal.loop-k-preserved
 unfolding same_lines
-loop-k-preserved c = let at = c.loop-k in
-    let a = c.args in (
-      omega arith,
-      one_more _ _ at.invariant.1
-          (is_met _ (same_columns a.i at.k 1 c.line_of-l.result c.line_of-m.result) c.same_columns-v.ensures.verdict c.in_default.is
-          ∙ nine_row _ _ _ _ _ _ c.line_of-l.ensures.value c.line_of-m.ensures.value),
-    )
-
-pub returns : goal.returns
-returns c = record {
-  verdict = let at = c.loop-k in
-      let a = c.args in
-      at.invariant.1 ∙ ap (λ (k : ℕ). run (same_lines a.i (sheet_of a.how a.r.now) (sheet_of a.how a.f.now) k)) (omega arith);
-}
+loop-k-preserved c =
+    one_more _ _ c.loop-k.invariant
+    (c.in_ok-same_columns.ensures.verdict ∙ nine_row _ _ _ _ _ _ c.line_of-l.ensures.value c.line_of-m.ensures.value)

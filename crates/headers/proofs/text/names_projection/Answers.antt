@@ -2,14 +2,13 @@
 use Rattle.headers.proofs.Projection.{names_end, names_step}
 use borrow.Author.Rules.{rules}
 use mathlib.Core.Path.{◌∙◌}
-use native.Mathlib.Omega.{arith}
 use Rattle.headers.proofs.text.names_projection.Goals as goal
 
 pub returns-then-l-c-ne32 : goal.returns-then-l-c-ne32
-returns-then-l-c-ne32 c = record { value = c.names_at.ensures.value ∙ c.loop-c.invariant.1 }
+returns-then-l-c-ne32 c = record { value = c.names_at.ensures.value ∙ c.loop-c.invariant }
 
 pub loop-c-preserved : goal.loop-c-preserved
-loop-c-preserved c = (omega arith, search (rules, names_step))
+loop-c-preserved c = search (rules, names_step)
 
 pub returns : goal.returns
 returns c = record { value = search (rules, names_end) }
