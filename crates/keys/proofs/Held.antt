@@ -1,6 +1,5 @@
 -- Whether a line has a key that is looked for.
---   other_key, own_key   = what the code finds of the key, then of the line
---   holds_point          = of a line that is a point exactly where t says so: t, and that its key is the one, where t is so
+--   holds_point = of a line that is a point exactly where t says so: t, and that its key is the one, where t is so
 use Prim.Native.Nat.{ℕ}
 use mathlib.Core.Path.{◌≡◌, refl, ap, ◌∙◌}
 use mathlib.Core.Bool.{Bool, true, false, ◌&&◌, and-false, and-true}
@@ -11,15 +10,6 @@ use Rattle.keys.specs.declared.By.{By}
 use Rattle.keys.specs.declared.Key.{Key}
 
 module _ (z : By) (f : Sheet) (y : Key) (k : ℕ) where
-  module _ (t : Bool) (e : t ≡ same_key (key_at z f k) y) where
-    pub other_key : t ≡ false → false ≡ holds_key z f y k
-    unfolding holds_key
-    other_key n = rw (← e, n)
-
-    pub own_key : t ≡ true → (b : Bool) → b ≡ takes_at z f k → b ≡ holds_key z f y k
-    unfolding holds_key
-    own_key u b g = rw (← e, u) g
-
   pub holds_point : (t b : Bool) → takes_at z f k ≡ t → (t ≡ true → same_key (key_at z f k) y ≡ b) → holds_key z f y k ≡ (t && b)
   unfolding holds_key
   holds_point true b e g = ap (◌&&◌ (same_key (key_at z f k) y)) e ∙ and-true (same_key (key_at z f k) y) ∙ g refl

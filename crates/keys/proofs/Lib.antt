@@ -1,7 +1,8 @@
-pub mod Halves
+pub mod Columns
 pub mod Compared
 pub mod Lines
 pub mod Letters
+pub mod Used
 pub mod Owned
 pub mod Passed
 pub mod Read

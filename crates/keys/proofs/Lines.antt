@@ -43,9 +43,9 @@ unfolding takes_at
 takes_beyond t f k h = rw (le-ltb k f.count h)
 
 module _ (how : Reading) (f : List ℕ) (t : By) (k : ℕ) where
-  pub key_line : (l : List ℕ) → l ≡ line_at (sheet_of how f) k → key_of t sps93 l ≡ key_at t (sheet_of how f) k
+  pub key_here : key_at t (sheet_of how f) k ≡ key_of t sps93 (line_at (sheet_of how f) k)
   unfolding key_at
-  key_line l e = rw (e, layout_is how f)
+  key_here = rw (layout_is how f)
 
   pub takes_line_lem : (l : List ℕ) → k < (sheet_of how f).count → l ≡ owned (sheet_of how f) k
       → takes_line t sps93 (ranked (medium_of how).char_of l) ≡ takes_at t (sheet_of how f) k

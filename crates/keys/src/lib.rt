@@ -1,4 +1,4 @@
-#![tactic(auto)]
+#![tactic(auto, using(crate::proofs::Used::used))]
 // The keys of lines: three numbers, read from the text where two lines are compared. By them lines are put in order and found again;
 // nothing is kept of a line but its number. Keys are read in the medium's own bytes, so that no line is translated for them and names are in
 // the medium's order; of a line that the form check has passed a key says what its fields say.
@@ -19,7 +19,7 @@ use records::state::State;
 mod parts;
 
 // What lines are compared by: points by name, number and index; receivers by name, index and number; relation lines by record and tape.
-#[derive(Clone, Copy)]
+#[derive(Clone, Copy, Debug, PartialEq, Eq)]
 pub enum By {
     Points,
     Receivers,
@@ -34,7 +34,7 @@ pub struct Keyed {
 }
 
 // Three numbers, compared one after the other.
-#[derive(Clone, Copy)]
+#[derive(Clone, Copy, Debug, PartialEq, Eq, PartialOrd, Ord)]
 pub struct Key {
     pub first: u64,
     pub second: u64,
@@ -42,25 +42,23 @@ pub struct Key {
 }
 
 // Line k in the medium's own bytes, or 80 columns that hold nothing.
+#[tactic(auto, using(crate::proofs::Used::used), unfolding(crate::specs::Keys::line_at, rules::specs::Places::pick))]
 fn line_at(how: Reading, f: &[u8], k: usize) -> [u8; 80]
     ensures value { result ≡ line_at (sheet_of how f.now) k }
 {
     if k < lines::line_count(how, f) {
-        return lines::own_of(how, f, k);
+        lines::own_of(how, f, k)
+    } else {
+        [0; 80]
     }
-    [0; 80]
 }
 
 // Whether line k has a key: it is a receiver or a shot, or a relation line.
 pub fn takes(z: Keyed, f: &[u8], k: usize) -> bool
     ensures value { result ≡ takes_in z f.now k }
 {
-    let how = z.how;
-    let by = z.by;
-    if lines::line_count(how, f) <= k {
-        return false;
-    }
-    parts::takes(how, by, &lines::own_of(how, f, k))
+    let Keyed { how, by } = z;
+    k < lines::line_count(how, f) && parts::takes(how, by, &lines::own_of(how, f, k))
 }
 
 // Line k is killed.
@@ -68,19 +66,17 @@ pub fn killed(how: Reading, f: &[u8], k: usize) -> bool
     requires { k < (sheet_of how f.now).count }
     ensures value { result ≡ is_killed (point_at (sheet_of how f.now) k) }
 {
-    match state::state_in(how, &lines::own_of(how, f, k)) {
-        State::Killed => true,
-        State::Live => false,
-        State::Marker => false,
-    }
+    matches!(
+        state::state_in(how, &lines::own_of(how, f, k)),
+        State::Killed
+    )
 }
 
 // The key of line k.
 pub fn key_of(z: Keyed, f: &[u8], k: usize) -> Key
     ensures value { result ≡ keys_in z f.now k }
 {
-    let how = z.how;
-    let by = z.by;
+    let Keyed { how, by } = z;
     let l = line_at(how, f, k);
     Key {
         first: parts::first(by, &l),
@@ -90,29 +86,23 @@ pub fn key_of(z: Keyed, f: &[u8], k: usize) -> Key
 }
 
 // Line k has the key y.
+#[tactic(auto, using(crate::proofs::Used::used), unfolding(crate::specs::Compare::same_key))]
 pub fn is_at(z: Keyed, f: &[u8], k: usize, y: Key) -> bool
     ensures value { result ≡ same_key (keys_in z f.now k) y }
 {
-    let how = z.how;
-    let by = z.by;
+    let Keyed { how, by } = z;
     let l = line_at(how, f, k);
-    if parts::first(by, &l) != y.first {
-        return false;
-    }
-    if parts::second(by, &l) != y.second {
-        return false;
-    }
-    parts::third(by, &l) == y.third
+    parts::first(by, &l) == y.first
+        && parts::second(by, &l) == y.second
+        && parts::third(by, &l) == y.third
 }
 
 // Line k is one that has a key, and has the key y.
+#[tactic(auto, using(crate::proofs::Used::used), unfolding(crate::specs::Keyed::holds_key))]
 pub fn holds(z: Keyed, f: &[u8], k: usize, y: Key) -> bool
     ensures value { result ≡ holds_key z.by (sheet_of z.how f.now) y k }
 {
-    if !is_at(z, f, k, y) {
-        return false;
-    }
-    takes(z, f, k)
+    is_at(z, f, k, y) && takes(z, f, k)
 }
 
 // Lines j and k have one key.
@@ -123,11 +113,11 @@ pub fn same(z: Keyed, f: &[u8], j: usize, k: usize) -> bool
 }
 
 // The key of line k is below y; where they are the same, what `tie` says.
+#[tactic(auto, using(crate::proofs::Used::used), unfolding(crate::specs::Compare::less_or))]
 pub fn below(z: Keyed, f: &[u8], k: usize, y: Key, tie: bool) -> bool
     ensures value { result ≡ less_or (keys_in z f.now k) y tie }
 {
-    let how = z.how;
-    let by = z.by;
+    let Keyed { how, by } = z;
     let l = line_at(how, f, k);
     let a = parts::first(by, &l);
     if a != y.first {
@@ -145,19 +135,11 @@ pub fn below(z: Keyed, f: &[u8], k: usize, y: Key, tie: bool) -> bool
 }
 
 // a is below b by the first number that differs; where none does, what `tie` says.
+#[tactic(auto, using(crate::proofs::Used::used), unfolding(crate::specs::Compare::less_or))]
 pub fn precedes(a: Key, b: Key, tie: bool) -> bool
     ensures value { result ≡ less_or a b tie }
 {
-    if a.first != b.first {
-        return a.first < b.first;
-    }
-    if a.second != b.second {
-        return a.second < b.second;
-    }
-    if a.third != b.third {
-        return a.third < b.third;
-    }
-    tie
+    a < b || a == b && tie
 }
 
 // The key of line j is below that of line k; where they are the same, what `tie` says.
@@ -168,6 +150,7 @@ pub fn less(z: Keyed, f: &[u8], j: usize, k: usize, tie: bool) -> bool
 }
 
 // The key by which the shot of relation line k stands in S.
+#[tactic(auto, using(crate::proofs::Used::used), unfolding(crate::specs::Keys::shot_key))]
 pub fn shot_key(how: Reading, x: &[u8], k: usize) -> Key
     requires { k < (sheet_of how x.now).count }
     ensures value { result ≡ shot_key sps93 (owned (sheet_of how x.now) k) }
@@ -182,12 +165,13 @@ pub fn shot_key(how: Reading, x: &[u8], k: usize) -> Key
 }
 
 // The key by which receiver number n of a relation line stands in R.
+#[tactic(auto, using(crate::proofs::Used::used), unfolding(crate::specs::Keys::receiver_key))]
 pub fn receiver_key(how: Reading, x: &[u8], k: usize, n: u32) -> Key
     requires { k < (sheet_of how x.now).count }
     ensures value { result ≡ receiver_key sps93 (owned (sheet_of how x.now) k) n }
 {
     let l = lines::own_of(how, x, k);
-    let third = 4294967296 * figures::index(&l, 80) + n as u64;
+    let third = 4294967296 * figures::index(&l, 80) + u64::from(n);
     Key {
         first: names::pack(&l, 48, 55),
         second: names::pack(&l, 56, 63),

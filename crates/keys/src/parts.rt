@@ -1,3 +1,4 @@
+#![tactic(auto, using(crate::proofs::Used::used), unfolding(crate::specs::Keys::is_point_line, crate::specs::Keys::takes_line, crate::specs::Keys::key_of))]
 // The three numbers of a line's key, each by itself, so that those which decide nothing are not read. A line is in the medium's own bytes.
 ghost use Rattle.std.specs.Prelude.{◌≡◌};
 ghost use Rattle.rules.specs.Layout.{sps93};
@@ -23,21 +24,14 @@ fn is_header(how: Reading, l: &[u8; 80]) -> bool
 fn is_marker(how: Reading, l: &[u8; 80]) -> bool
     ensures value { result ≡ is_marker sps93 (ranked (medium_of how).char_of l.now) }
 {
-    match state::state_in(how, l) {
-        State::Marker => true,
-        State::Live => false,
-        State::Killed => false,
-    }
+    matches!(state::state_in(how, l), State::Marker)
 }
 
 // A receiver or a shot: no header line and no marker.
 fn is_point(how: Reading, l: &[u8; 80]) -> bool
     ensures value { result ≡ is_point_line sps93 (ranked (medium_of how).char_of l.now) }
 {
-    if is_header(how, l) {
-        return false;
-    }
-    !is_marker(how, l)
+    !is_header(how, l) && !is_marker(how, l)
 }
 
 // Whether a line has a key.
@@ -45,8 +39,7 @@ pub fn takes(how: Reading, by: By, l: &[u8; 80]) -> bool
     ensures value { result ≡ takes_line by sps93 (ranked (medium_of how).char_of l.now) }
 {
     match by {
-        By::Points => is_point(how, l),
-        By::Receivers => is_point(how, l),
+        By::Points | By::Receivers => is_point(how, l),
         By::Records => !is_header(how, l),
     }
 }
@@ -55,8 +48,7 @@ pub fn first(by: By, l: &[u8; 80]) -> u64
     ensures value { result ≡ (key_of by sps93 l.now).first }
 {
     match by {
-        By::Points => names::pack(l, 2, 9),
-        By::Receivers => names::pack(l, 2, 9),
+        By::Points | By::Receivers => names::pack(l, 2, 9),
         By::Records => figures::number(l, 8, 11),
     }
 }
@@ -65,8 +57,7 @@ pub fn second(by: By, l: &[u8; 80]) -> u64
     ensures value { result ≡ (key_of by sps93 l.now).second }
 {
     match by {
-        By::Points => names::pack(l, 10, 17),
-        By::Receivers => names::pack(l, 10, 17),
+        By::Points | By::Receivers => names::pack(l, 10, 17),
         By::Records => 0,
     }
 }
