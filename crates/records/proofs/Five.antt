@@ -1,10 +1,9 @@
 -- 5 of a line, by what the line is.
 use Prim.Native.Nat.{ℕ}
-use mathlib.Core.Path.{◌≡◌, refl, sym, ◌∙◌}
+use mathlib.Core.Path.{◌≡◌, refl}
 use mathlib.Core.Bool.{Bool, true, false, not, ◌&&◌}
 use mathlib.Core.List.{List}
 use lib.Dec.{eqb}
-use borrow.Author.Tests.{eq-eqb, ne_eqb}
 use Rattle.rules.specs.Places.{pick}
 use Rattle.rules.specs.Plan.{Verdict, fine, refused, ◌or_else◌, Plan, when, ◌before◌, run}
 use Rattle.rules.specs.Layout.{sps93}
@@ -25,25 +24,10 @@ one_of true x a b c = or_else_end (run a)
 one_of false true a b c = refl
 one_of false false a b c = or_else_end (run b)
 
-module _ (i k : ℕ) (l : List ℕ) (v : Verdict) (t : Bool) (q : t ≡ is_header l) where
-  all : pick (is_header l) (run (fields_fit i k false l (header_rows sps93)))
-      (pick (eqb i 3) (run (fields_fit i k false l (relation_rows sps93))) (run (fields_fit i k (is_marker sps93 l) l (point_rows sps93 i))))
-      ≡ run (rule5 i sps93 k l)
-  unfolding rule5
-  all =
-      sym
-      (one_of (is_header l) (eqb i 3) (fields_fit i k false l (header_rows sps93)) (fields_fit i k (is_marker sps93 l) l (point_rows sps93 i))
-      (fields_fit i k false l (relation_rows sps93)))
-
-  pub five_header : t ≡ true → v ≡ run (fields_fit i k false l (header_rows sps93)) → v ≡ run (rule5 i sps93 k l)
-  unfolding pick
-  five_header e f = f ∙ (rw (← q, e)) ∙ all
-
-  module _ (e : t ≡ false) where
-    pub five_relation : i ≡ 3 → v ≡ run (fields_fit i k false l (relation_rows sps93)) → v ≡ run (rule5 i sps93 k l)
-    unfolding pick
-    five_relation x f = f ∙ (rw (← q, e, eq-eqb i 3 x)) ∙ all
-
-    pub five_point : (i ≡ 3 → ⊥) → v ≡ run (fields_fit i k (is_marker sps93 l) l (point_rows sps93 i)) → v ≡ run (rule5 i sps93 k l)
-    unfolding pick
-    five_point x f = f ∙ (rw (← q, e, ne_eqb i 3 x)) ∙ all
+pub five : (i k : ℕ) (l : List ℕ) → run (rule5 i sps93 k l)
+    ≡ pick (is_header l) (run (fields_fit i k false l (header_rows sps93)))
+    (pick (eqb i 3) (run (fields_fit i k false l (relation_rows sps93))) (run (fields_fit i k (is_marker sps93 l) l (point_rows sps93 i))))
+unfolding rule5
+five i k l =
+    one_of (is_header l) (eqb i 3) (fields_fit i k false l (header_rows sps93)) (fields_fit i k (is_marker sps93 l) l (point_rows sps93 i))
+    (fields_fit i k false l (relation_rows sps93))

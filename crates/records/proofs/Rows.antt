@@ -55,18 +55,7 @@ unfolding fits
 or_blank_lem true k bs = refl
 or_blank_lem false k bs = refl
 
-module _ (m : Bool) (l : List ℕ) (w : CodeRow) where
-  asks : ((w.free && m) || ((w.blank && blank (cols l w.first w.last)) || fits (kind w.kind) (cols l w.first w.last)))
-      ≡ row_fits m l (row_of w)
-  unfolding row_fits at
-  asks = ap (λ (t : Bool). (w.free && m) || t) (sym (or_blank_lem w.blank (kind w.kind) (cols l w.first w.last)))
-
-  pub row_free : (t : Bool) → t ≡ (w.free && m) → t ≡ true → true ≡ row_fits m l (row_of w)
-  row_free t q e = (rw (← q, e)) ∙ asks
-
-  module _ (t : Bool) (q : t ≡ (w.free && m)) (e : t ≡ false) (s : Bool) (p : s ≡ (w.blank && blank (cols l w.first w.last))) where
-    pub row_blank : s ≡ true → true ≡ row_fits m l (row_of w)
-    row_blank f = (rw (← q, e, ← p, f)) ∙ asks
-
-    pub row_field : s ≡ false → fits (kind w.kind) (cols l w.first w.last) ≡ row_fits m l (row_of w)
-    row_field f = (rw (← q, e, ← p, f)) ∙ asks
+pub asks : (m : Bool) (l : List ℕ) (w : CodeRow) → row_fits m l (row_of w)
+    ≡ ((w.free && m) || ((w.blank && blank (cols l w.first w.last)) || fits (kind w.kind) (cols l w.first w.last)))
+unfolding row_fits at
+asks m l w = ap (λ (t : Bool). (w.free && m) || t) (or_blank_lem w.blank (kind w.kind) (cols l w.first w.last))

@@ -1,6 +1,6 @@
 // What one relation line covers: its channels, its receivers, and how one leads to the other. Each promise is of every reach of the
 // paper that the values code.
-ghost use Rattle.std.specs.Prelude.{◌≡◌, ℕ, ◌-◌, ◌≤◌, ◌<◌, min, max, ltb};
+ghost use Rattle.std.specs.Prelude.{◌≡◌, ℕ, ◌-◌, ◌≤◌, ◌<◌, min, max, leb, ◌&&◌};
 ghost use Rattle.rules.specs.Relations.{Reach as PaperReach};
 ghost use Rattle.rules.specs.Cover.{traces as traces_of, carries as carries_of, receivers as receivers_of, covers as covers_of};
 ghost use Rattle.rules.specs.Cover.{lowest as lowest_of, highest as highest_of, receiver_on, on_to};
@@ -12,50 +12,33 @@ use crate::relation::Reach;
 use fields::names;
 
 // How many channels: T - F + 1.
+#[tactic(auto, unfolding(rules::specs::Cover::traces))]
 pub fn traces(q: Reach) -> u64
     ensures value { (p : PaperReach) → q ≡ coded_reach p → result ≡ traces_of p }
 {
-    if q.upto < q.from {
-        return 0;
-    }
-    q.upto as u64 + 1 - q.from as u64
+    (q.upto as u64 + 1).saturating_sub(q.from as u64)
 }
 
 // Channel c is one of them.
+#[tactic(auto, unfolding(rules::specs::Cover::carries))]
 pub fn carries(q: Reach, c: u64) -> bool
     ensures value { (p : PaperReach) → q ≡ coded_reach p → result ≡ carries_of p c }
 {
-    if c < q.from as u64 {
-        return false;
-    }
-    c <= q.upto as u64
-}
-
-// The receivers are counted downwards: the line is laid out backwards.
-fn runs_down(q: Reach) -> bool
-    ensures value { result ≡ ltb q.to_receiver q.from_receiver }
-{
-    q.to_receiver < q.from_receiver
+    q.from as u64 <= c && c <= q.upto as u64
 }
 
 // The lower of two numbers.
 pub fn lower(m: u64, n: u64) -> u64
     ensures value { result ≡ min m n }
 {
-    if n < m {
-        return n;
-    }
-    m
+    m.min(n)
 }
 
 // The higher of two numbers.
 pub fn higher(m: u64, n: u64) -> u64
     ensures value { result ≡ max m n }
 {
-    if m < n {
-        return n;
-    }
-    m
+    m.max(n)
 }
 
 // The lowest receiver number.
@@ -63,7 +46,7 @@ pub fn lowest(q: Reach) -> u64
     ensures value { (p : PaperReach) → q ≡ coded_reach p → result ≡ lowest_of p }
     ensures small { result < 4294967296 }
 {
-    lower(q.from_receiver as u64, q.to_receiver as u64)
+    q.from_receiver.min(q.to_receiver) as u64
 }
 
 // The highest receiver number.
@@ -71,60 +54,54 @@ pub fn highest(q: Reach) -> u64
     ensures value { (p : PaperReach) → q ≡ coded_reach p → result ≡ highest_of p }
     ensures small { result < 4294967296 }
 {
-    higher(q.from_receiver as u64, q.to_receiver as u64)
+    q.from_receiver.max(q.to_receiver) as u64
 }
 
 // How many receivers.
+#[tactic(auto, unfolding(rules::specs::Cover::receivers))]
 pub fn receivers(q: Reach) -> u64
     ensures value { (p : PaperReach) → q ≡ coded_reach p → result ≡ receivers_of p }
 {
-    less(highest(q), lowest(q)) + 1
-}
-
-// m less n, or 0.
-fn less(m: u64, n: u64) -> u64
-    ensures value { result ≡ m - n }
-{
-    if m < n {
-        return 0;
-    }
-    m - n
+    highest(q).saturating_sub(lowest(q)) + 1
 }
 
 // The number of the receiver that is d on from the first.
+#[tactic(auto, unfolding(rules::specs::Cover::receiver_on, rules::specs::Places::pick))]
 pub fn receiver_on(q: Reach, d: u64) -> u64
     requires { d < 4294967296 }
     ensures value { (p : PaperReach) → q ≡ coded_reach p → result ≡ receiver_on p d }
 {
-    if runs_down(q) {
-        return less(q.from_receiver as u64, d);
+    if q.from_receiver <= q.to_receiver {
+        q.from_receiver as u64 + d
+    } else {
+        (q.from_receiver as u64).saturating_sub(d)
     }
-    q.from_receiver as u64 + d
 }
 
 // How far on from the first receiver number n is.
+#[tactic(auto, unfolding(rules::specs::Cover::on_to, rules::specs::Places::pick))]
 fn on_to(q: Reach, n: u64) -> u64
     requires { n < 4294967296 }
     ensures value { (p : PaperReach) → q ≡ coded_reach p → result ≡ on_to p n }
     ensures small { result < 4294967296 }
 {
-    if runs_down(q) {
-        return less(q.from_receiver as u64, n);
+    if q.from_receiver <= q.to_receiver {
+        n.saturating_sub(q.from_receiver as u64)
+    } else {
+        (q.from_receiver as u64).saturating_sub(n)
     }
-    less(n, q.from_receiver as u64)
 }
 
 // Receiver number n is one of them.
+#[tactic(auto, unfolding(rules::specs::Cover::covers))]
 pub fn covers(q: Reach, n: u64) -> bool
     ensures value { (p : PaperReach) → q ≡ coded_reach p → result ≡ covers_of p n }
 {
-    if n < lowest(q) {
-        return false;
-    }
-    n <= highest(q)
+    lowest(q) <= n && n <= highest(q)
 }
 
 // The receiver number that channel c leads to.
+#[tactic(auto, unfolding(rules::specs::Cover::leads))]
 pub fn leads(q: Reach, c: u64) -> u64
     requires { (q.from ≤ c) × ((c < 4294967296) × (1 ≤ q.step)) }
     ensures value { (p : PaperReach) → q ≡ coded_reach p → result ≡ leads_of p c }
@@ -133,6 +110,7 @@ pub fn leads(q: Reach, c: u64) -> u64
 }
 
 // The component that it leads to.
+#[tactic(auto, unfolding(rules::specs::Cover::component))]
 pub fn component(q: Reach, c: u64) -> u64
     requires { (q.from ≤ c) × ((c < 4294967296) × (1 ≤ q.step)) }
     ensures value { (p : PaperReach) → q ≡ coded_reach p → result ≡ component_of p c }
@@ -141,6 +119,7 @@ pub fn component(q: Reach, c: u64) -> u64
 }
 
 // The channel of receiver number n and component m.
+#[tactic(auto, unfolding(rules::specs::Cover::channel_of))]
 pub fn channel_of(q: Reach, n: u64, m: u64) -> u64
     requires { (n < 4294967296) × ((q.step < 256) × ((1 ≤ m) × (m < 4294967296))) }
     ensures value { (p : PaperReach) → q ≡ coded_reach p → result ≡ channel_of p n m }
@@ -148,20 +127,19 @@ pub fn channel_of(q: Reach, n: u64, m: u64) -> u64
     q.from as u64 + on_to(q, n) * q.step as u64 + (m - 1)
 }
 
+// Each begins before the other ends.
+fn overlap(a: Reach, b: Reach) -> bool
+    ensures value { (p q : PaperReach) → a ≡ coded_reach p → b ≡ coded_reach q
+        → result ≡ (leb (lowest_of p) (highest_of q) && leb (lowest_of q) (highest_of p)) }
+{
+    lowest(a) <= highest(b) && lowest(b) <= highest(a)
+}
+
 // Both cover one receiver: of one name and index, and each begins before the other ends.
 pub fn meets(a: Reach, b: Reach) -> bool
     ensures value { (p q : PaperReach) → a ≡ coded_reach p → b ≡ coded_reach q → Wide p.receiver → Wide q.receiver → result ≡ meet p q }
 {
-    let m = a.receiver;
-    let n = b.receiver;
-    if !names::same_name(m, n) {
-        return false;
-    }
-    if a.receiver_index != b.receiver_index {
-        return false;
-    }
-    if highest(b) < lowest(a) {
-        return false;
-    }
-    lowest(b) <= highest(a)
+    names::same_name(a.receiver, b.receiver)
+        && a.receiver_index == b.receiver_index
+        && overlap(a, b)
 }

@@ -31,84 +31,62 @@ pub fn is_marker(l: &[u8; 80]) -> bool
     bytes::two(l[26], l[27], b'P', b'M')
 }
 
-// Free in a line that is a marker.
-fn spared(free: bool, marker: bool) -> bool
-    ensures value { result ≡ (free && marker) }
-{
-    if !free {
-        return false;
-    }
-    marker
-}
-
-// Blank, where it may be.
-fn left_blank(l: &[u8; 80], may: bool, a: usize, b: usize) -> bool
-    requires { (1 ≤ a) × (b ≤ 80) }
-    ensures value { result ≡ (may && is_blank (cols l.now a b)) }
-{
-    if !may {
-        return false;
-    }
-    bytes::blank(l, a, b)
-}
-
 // Whether a field obeys its rule, or is free in a marker.
+#[tactic(auto, using(crate::proofs::Rows::asks, fields::proofs::Widths::sized_is))]
 fn row_fits(l: &[u8; 80], w: Row, marker: bool) -> bool
     requires { sized w.kind w.first w.last ≡ true }
     ensures value { result ≡ row_fits marker l.now (row_of w) }
 {
-    if spared(w.free, marker) {
-        return true;
-    }
-    if left_blank(l, w.blank, w.first, w.last) {
-        return true;
-    }
-    let k = w.kind;
-    fields::fits(k, l, w.first, w.last)
+    w.free && marker
+        || w.blank && bytes::blank(l, w.first, w.last)
+        || fields::fits(w.kind, l, w.first, w.last)
 }
 
 // 5 over the rows of a table, from the left: line k, from 0, of file i.
+#[tactic(auto, unfolding(rules::specs::Sheet::most_lines))]
 fn fields_fit(l: &[u8; 80], t: Table, marker: bool, i: u8, k: usize) -> Verdict
     requires { k ≤ most_lines }
     ensures verdict { paper result ≡ run (fields_fit i k marker l.now (rows_of t)) }
 {
-    let n = table::row_count(t);
-    let mut j = 0;
-    while j < n {
+    for j in 0..table::row_count(t) {
         let w = table::row_at(t, j);
         if !row_fits(l, w, marker) {
             return lines::at_line(5, i, k, w.first as u8);
         }
-        j += 1;
     }
     Ok(())
 }
 
 // 5 of line k, from 0, of file i: all rows at once, and one by one only where a field is bad.
+#[tactic(auto, using(crate::proofs::Five::five), unfolding(rules::specs::Places::pick, crate::specs::Coded::rows_of))]
 pub fn rule5(l: &[u8; 80], i: u8, k: usize) -> Verdict
     requires { k ≤ most_lines }
     ensures verdict { paper result ≡ run (rule5_of i sps93 k l.now) }
 {
     if is_header(l) {
         if straight::header_fits(l) {
-            return Ok(());
+            Ok(())
+        } else {
+            fields_fit(l, Table::Header, false, i, k)
         }
-        return fields_fit(l, Table::Header, false, i, k);
-    }
-    if i == 3 {
+    } else if i == 3 {
         if straight::relation_fits(l) {
-            return Ok(());
+            Ok(())
+        } else {
+            fields_fit(l, Table::Relation, false, i, k)
         }
-        return fields_fit(l, Table::Relation, false, i, k);
+    } else {
+        let marker = is_marker(l);
+        if straight::point_fits(l, i, marker) {
+            Ok(())
+        } else {
+            fields_fit(l, Table::Point(i), marker, i, k)
+        }
     }
-    let marker = is_marker(l);
-    if straight::point_fits(l, i, marker) {
-        return Ok(());
-    }
-    fields_fit(l, Table::Point(i), marker, i, k)
 }
 
 // 6 of the reach of line k of X, from 0.
+#[tactic(auto, using(crate::proofs::Six::channels), unfolding(rules::specs::Places::pick, rules::specs::Sheet::most_lines, rules::specs::Cover::traces))]
 pub fn counts(q: Reach, k: usize) -> Verdict
     requires { k ≤ most_lines }
     ensures verdict { (p : PaperReach) → q ≡ coded_reach p → paper result ≡ run (rule6_of sps93 k p) }
@@ -118,10 +96,7 @@ pub fn counts(q: Reach, k: usize) -> Verdict
     }
     let n = cover::traces(q);
     let i = q.step as u64;
-    if i == 0 {
-        return lines::at_line(6, 3, k, 47);
-    }
-    if n % i != 0 {
+    if i == 0 || n % i != 0 {
         return lines::at_line(6, 3, k, 47);
     }
     if n / i != cover::receivers(q) {

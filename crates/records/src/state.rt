@@ -10,7 +10,7 @@ ghost use Rattle.records.specs.Coded.{coded_state};
 
 use lines::Reading;
 
-#[derive(Clone, Copy)]
+#[derive(Clone, Copy, Debug, PartialEq, Eq)]
 pub enum State {
     Live,
     Killed,
@@ -18,27 +18,26 @@ pub enum State {
 }
 
 // The code of a line in the medium's own bytes is these two letters.
+#[tactic(auto, using(crate::proofs::States::code_in))]
 fn has_code(how: Reading, l: &[u8; 80], a: u8, b: u8) -> bool
     requires { ((65 ≤ a) × (a ≤ 90)) × ((65 ≤ b) × (b ≤ 90)) }
     ensures value { result ≡ same (at (ranked (medium_of how).char_of l.now) sps93.code) (a ∷ b ∷ []) }
 {
-    if lines::is_letter(how, l[26], a) {
-        return lines::is_letter(how, l[27], b);
-    }
-    false
+    lines::is_letter(how, l[26], a) && lines::is_letter(how, l[27], b)
 }
 
 // The state of a point line in the medium's own bytes.
+#[tactic(auto, unfolding(rules::specs::Points::state_of, rules::specs::Text::bytes, rules::specs::Places::pick))]
 pub fn state_in(how: Reading, l: &[u8; 80]) -> State
     ensures value { result ≡ coded_state (state_of (at (ranked (medium_of how).char_of l.now) sps93.code)) }
 {
     if has_code(how, l, b'P', b'M') {
-        return State::Marker;
+        State::Marker
+    } else if has_code(how, l, b'K', b'L') {
+        State::Killed
+    } else {
+        State::Live
     }
-    if has_code(how, l, b'K', b'L') {
-        return State::Killed;
-    }
-    State::Live
 }
 
 // PM and KL as numbers.
@@ -47,14 +46,13 @@ const MARKER: u64 = 20557;
 const KILLED: u64 = 19276;
 
 // The state of a code, whose two bytes are one number, the high one first.
+#[tactic(auto, using(crate::proofs::States::codes), unfolding(rules::specs::Points::state_of, rules::specs::Text::bytes, rules::specs::Places::pick))]
 pub fn state_of(code: u64) -> State
     ensures value { result ≡ coded_state (state_of (bytes_of 2 code)) }
 {
-    if code == MARKER {
-        return State::Marker;
+    match code {
+        MARKER => State::Marker,
+        KILLED => State::Killed,
+        _ => State::Live,
     }
-    if code == KILLED {
-        return State::Killed;
-    }
-    State::Live
 }
