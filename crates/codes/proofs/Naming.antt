@@ -1,7 +1,7 @@
 -- What is noted of the header decides 24 and 25, and which line names a code.
 --   names_by                  = a line names a code where it has its place
---   noted_none, noted_more    = the noting of one header line after another
---   once_met, once_broken     = 24 of a line, by what is noted of those before it
+--   noted_none, noted_more, noted_same = the noting of one header line after another
+--   once_met, once_none, once_broken   = 24 of a line, by what is noted of those before it
 --   used_is                   = 25 of a line, by what is noted of all
 --   naming_at, naming_end     = the first line that names a code
 use Prim.Native.Nat.{ℕ, zero, suc, ◌+◌, ◌-◌, ◌≤◌, ◌<◌}
@@ -25,7 +25,7 @@ use Rattle.rules.specs.Codes.{tables_of, names, named, named_before, rule24, use
 use Rattle.rules.proofs.Tests.{clash, agree, yes_no, and_is, not_is, every_is, some_is}
 use Rattle.rules.proofs.Steps.{need_met, need_broken, when_off, when_on, every_stop, least_stop}
 use Rattle.fields.proofs.Codes.{two_columns}
-use Rattle.codes.specs.Named.{Kind, place_of, place_for, place_on, place_used, is_noted, noted, allowed, Noted}
+use Rattle.codes.specs.Named.{Kind, place_of, place_for, place_on, place_used, is_noted, allowed, Noted}
 use Rattle.codes.proofs.Placed.{place_few, code_bytes, placed, names_placed}
 
 off : (t : Bool) → (t ≡ true → ⊥) → t ≡ false
@@ -84,66 +84,47 @@ module _ (r : Sheet) (y : r.layout ≡ sps93) where
     naming_end n z q = naming_none i b d k t n z (ap (least n) (sym alike) ∙ q)
 
   -- nothing is noted yet
-  zeros : (n p : ℕ) → ◌≡◌ {A = ℕ} (get_or (replicate n 0) p 0) 0
-  zeros zero p = refl
-  zeros (suc n) zero = refl
-  zeros (suc n) (suc p) = zeros n p
+  none : (n p : ℕ) → get_or (replicate n false) p false ≡ false
+  none zero p = refl
+  none (suc n) zero = refl
+  none (suc n) (suc p) = none n p
 
-  pub noted_none : (a : List ℕ) → a ≡ replicate 243 0 → Noted r 0 a
+  pub noted_none : (a : List Bool) → a ≡ replicate 243 false → Noted r 0 a
   unfolding some
-  noted_none a e = record { size = ap length e ∙ length-replicate {A = ℕ} 243 0; at = λ p h. rw (e, zeros 243 p) }
+  noted_none a e = record { size = ap length e ∙ length-replicate {A = Bool} 243 false; at = λ p h. rw (e, none 243 p) }
 
-  module _ (k : ℕ) (a : List ℕ) (w : Noted r k a) where
+  module _ (k : ℕ) (a : List Bool) (w : Noted r k a) where
     beyond : (p : ℕ) → 243 ≤ p → is_noted a p ≡ false
-    beyond p h = let s = w.size in rw (get_or-eq_default a 0 {n = p} (omega arith))
+    beyond p h = let s = w.size in get_or-eq_default a false {n = p} (omega arith)
 
     -- line k has place p
     module _ (p : ℕ) (e : p ≡ place k) where
-      pub noted_more : is_noted a p ≡ false → Noted r (k + 1) (noted a p)
-      unfolding some pick
-      noted_more n = go (ltb p 243) refl
+      one : (q : ℕ) → some (k + 1) (λ j. eqb (place j) q) ≡ (some k (λ j. eqb (place j) q) || eqb p q)
+      unfolding some
+      one q = rw (add-one k, e)
+
+      pub noted_same : 243 ≤ p → Noted r (k + 1) a
+      noted_same h =
+          record {
+            size = w.size;
+            at = λ q g. w.at q g ∙ sym (one q ∙ (rw (ne_eqb p q (λ x. omega arith), or-false (some k (λ j. eqb (place j) q)))));
+          }
+
+      pub noted_more : p < 243 → Noted r (k + 1) (set a p true)
+      noted_more h =
+          let s = w.size in
+          record { size = length-set a p true ∙ s; at = λ q g. within q g (eqb p q) refl }
         where
-          zero_there : eqb (get_or a p 0) 0 ≡ true
-          zero_there = turn (eqb (get_or a p 0) 0) n
-            where
-              turn : (t : Bool) → not t ≡ false → t ≡ true
-              turn true z = refl
-              turn false z = absurd (let q : ◌≡◌ {A = ℕ} 0 1 = cc in omega arith)
-
-          one : (q : ℕ) → some (k + 1) (λ j. eqb (place j) q) ≡ (some k (λ j. eqb (place j) q) || eqb p q)
-          one q = rw (add-one k, e)
-
-          within : (q : ℕ) → q < 243 → (t : Bool) → eqb p q ≡ t → p < length a → is_noted (set a p 1) q ≡ some (k + 1) (λ j. eqb (place j) q)
-          within q g true u h =
+          within : (q : ℕ) → q < 243 → (t : Bool) → eqb p q ≡ t → is_noted (set a p true) q ≡ some (k + 1) (λ j. eqb (place j) q)
+          within q g true u =
+              let s = w.size in
               let x = eqb-true p q u in
-              let d : get_or (set a p 1) q 0 ≡ 1 = ap (λ (n : ℕ). get_or (set a p 1) n 0) (sym x) ∙ get_or-set_same a p 1 0 h in
-              ap (λ (n : ℕ). not (eqb n 0)) d ∙ sym (one q ∙ (rw (u, or-true (some k (λ j. eqb (place j) q)))))
-          within q g false u h =
+              ap (λ (q : ℕ). get_or (set a p true) q false) (sym x) ∙ get_or-set_same a p true false (omega arith)
+              ∙ sym (one q ∙ (rw (u, or-true (some k (λ j. eqb (place j) q)))))
+          within q g false u =
               let m : q ≡ p → ⊥ = λ x. clash (sym u ∙ eq-eqb p q (sym x)) in
-              ap (λ (n : ℕ). not (eqb n 0)) (get_or-set_other a p q 1 0 m) ∙ w.at q g
+              get_or-set_other a p q true false m ∙ w.at q g
               ∙ sym (one q ∙ (rw (u, or-false (some k (λ j. eqb (place j) q)))))
-
-          go : (t : Bool) → ltb p 243 ≡ t → Noted r (k + 1) (noted a p)
-          go true t =
-              let h = ltb-true p 243 t in
-              let s = w.size in
-              let z : ltb p (length a) ≡ true = lt-ltb p (length a) (omega arith) in
-              let there : noted a p ≡ set a p 1 = rw (z, zero_there) in
-              subst (Noted r (k + 1)) (sym there)
-              (record {
-                size = length-set a p 1 ∙ s;
-                at = λ q g. within q g (eqb p q) refl (omega arith);
-              })
-          go false t =
-              let m : p < 243 → ⊥ = λ h. clash (sym t ∙ lt-ltb p 243 h) in
-              let s = w.size in
-              let z : ltb p (length a) ≡ false = le-ltb p (length a) (omega arith) in
-              let there : noted a p ≡ a = rw z in
-              subst (Noted r (k + 1)) (sym there)
-              (record {
-                size = s;
-                at = λ q g. w.at q g ∙ sym (one q ∙ (rw (ne_eqb p q (λ x. omega arith), or-false (some k (λ j. eqb (place j) q)))));
-              })
 
       -- 24 of line k
       pub once_met : is_noted a p ≡ false → fine ≡ run (rule24 r k)
@@ -165,6 +146,9 @@ module _ (r : Sheet) (y : r.layout ≡ sps93) where
               let f = place_few i _ _ v.0 in
               let z : p ≡ place_of i (get_or (r.row k) 32 0 ∷ get_or (r.row k) 33 0 ∷ []) = e ∙ v.1 in
               clash (sym n ∙ w.at p (omega arith) ∙ (some_is k (λ j. eqb (place j) p)).1 (j, h, eq-eqb _ _ (u.1 ∙ sym z)))
+
+      pub once_none : 243 ≤ p → fine ≡ run (rule24 r k)
+      once_none h = once_met (beyond p h)
 
       column : refused (№ 24 1 (k + 1) 33) ≡ refused (№ 24 1 (k + 1) r.layout.header_code.first)
       unfolding sps93
@@ -204,7 +188,7 @@ module _ (r : Sheet) (y : r.layout ≡ sps93) where
           (ap not (subst (λ (i : ℕ). named_before r k i ≡ true) z (again v.0 v.1 v.2 u.0 u.1 q))))
 
   -- 25 of line k of file i, by what is noted of the whole header
-  module _ (a : List ℕ) (w : Noted r (heads r) a) (i : ℕ) (m : Kind i) (f : Sheet) (x : f.layout ≡ sps93) (k : ℕ) where
+  module _ (a : List Bool) (w : Noted r (heads r) a) (i : ℕ) (m : Kind i) (f : Sheet) (x : f.layout ≡ sps93) (k : ℕ) where
     abbrev c : List ℕ
     c = used_code i f k
 

@@ -1,4 +1,5 @@
 -- A place tells its code, and the place of a header line tells what it names.
+--   equal_places, one_place = places that are at hand are the same exactly where their numbers are
 --   code_told      = what is no code has no place
 --   place_one      = two codes in one place are one, of one kind
 --   names_placed   = a header line names a code exactly where it has its place
@@ -7,7 +8,7 @@ use Prim.Native.Nat.{ℕ, ◌+◌, ◌-◌, ◌*◌, ◌/◌, ◌%◌, ◌≤◌
 use native.Mathlib.Omega.{arith}
 use mathlib.Core.Path.{◌≡◌, refl, sym, ap, ap₂, subst, ◌∙◌}
 use mathlib.Core.Logic.{◌↔◌, ◌⊎◌, inl, inr, ⊎_elim}
-use mathlib.Core.Bool.{Bool, true, false, not}
+use mathlib.Core.Bool.{Bool, true, false}
 use mathlib.Core.List.{List, [], ◌∷◌}
 use lib.Dec.{eqb, lit≤}
 use lib.ListN.{get_or}
@@ -22,7 +23,9 @@ use Rattle.rules.specs.MeetsFields.{OneOf, Family}
 use Rattle.rules.proofs.Tests.{yes_no, and_is, pick_is, same_is, some_is}
 use Rattle.rules.proofs.Codes.{code_of}
 use Rattle.fields.proofs.Codes.{two_columns}
-use Rattle.codes.specs.Named.{Kind, place_of, place_for, kind_on, place_on}
+use Rattle.std.specs.Prelude.{Option, Some, None, IfSome, is_some}
+use Rattle.std.specs.Option.{option_eq}
+use Rattle.codes.specs.Named.{Kind, place_or, place_of, place_for, kind_on, place_on}
 
 -- the letters of receivers, and of sources
 receiver_letters : (b : ℕ) → OneOf "GHR" b → (71 ≤ b) × (b ≤ 82)
@@ -101,16 +104,30 @@ place_few i b d t =
     omega arith)
     (view i b d t)
 
-pub code_told : (i b d p : ℕ) → p ≡ place_for i (b ∷ d ∷ []) → not (eqb p 243) ≡ (tables_of i).is_code (b ∷ d ∷ [])
+-- places that the code has at hand, by their numbers
+pub equal_places : (o q : Option ℕ) → IfSome o (λ p. p < 243) → IfSome q (λ p. p < 243) → option_eq eqb o q ≡ eqb (place_or o) (place_or q)
+equal_places (Some p) (Some q) g h = refl
+equal_places (Some p) None g h = sym (ne_eqb p 243 (λ e. omega arith))
+equal_places None (Some q) g h = sym (ne_eqb 243 q (λ e. omega arith))
+equal_places None None g h = refl
+
+pub one_place : (o q : Option ℕ) → IfSome o (λ p. p < 243) → IfSome q (λ p. p < 243) → place_or o ≡ place_or q → o ≡ q
+one_place (Some p) (Some q) g h e = ap Some e
+one_place (Some p) None g h e = absurd (omega arith)
+one_place None (Some q) g h e = absurd (omega arith)
+one_place None None g h e = refl
+
+pub code_told : (i b d : ℕ) (o : Option ℕ) → place_or o ≡ place_for i (b ∷ d ∷ []) → IfSome o (λ p. p < 243)
+    → is_some o ≡ (tables_of i).is_code (b ∷ d ∷ [])
 unfolding pick
-code_told i b d p e = go ((tables_of i).is_code (b ∷ d ∷ [])) refl
+code_told i b d o e h = go o ((tables_of i).is_code (b ∷ d ∷ [])) refl e h
   where
-    go : (t : Bool) → (tables_of i).is_code (b ∷ d ∷ []) ≡ t → not (eqb p 243) ≡ t
-    go true q =
-        let h = place_few i b d q in
-        let z : p ≡ place_of i (b ∷ d ∷ []) = e ∙ (rw q) in
-        ap not (ne_eqb p 243 (λ y. omega arith))
-    go false q = ap not (eq-eqb p 243 (e ∙ (rw q)))
+    go : (o : Option ℕ) (t : Bool) → (tables_of i).is_code (b ∷ d ∷ []) ≡ t → place_or o ≡ pick t (place_of i (b ∷ d ∷ [])) 243
+        → IfSome o (λ p. p < 243) → is_some o ≡ t
+    go (Some p) true q e h = refl
+    go (Some p) false q e h = absurd (omega arith)
+    go None true q e h = let g = place_few i b d q in absurd (omega arith)
+    go None false q e h = refl
 
 pub place_one : (i j b d c e : ℕ) → Kind i → Kind j → (tables_of i).is_code (b ∷ d ∷ []) ≡ true → (tables_of j).is_code (c ∷ e ∷ []) ≡ true
     → place_of i (b ∷ d ∷ []) ≡ place_of j (c ∷ e ∷ []) → (i ≡ j) × ((b ≡ c) × (d ≡ e))

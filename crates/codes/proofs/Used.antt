@@ -1,13 +1,14 @@
 -- What the code finds when it notes, looks and reads a line, in the definitions' words.
---   note_beyond, note_again, note_new, noted_length = a place is noted
+--   allowed_here, refused_here, allowed_none       = what is noted of a place, or of none
 --   used_none, used_instrument, used_point         = the place of the code that a line uses
---   all_used, stops_24, stops_r, stops_s, last_x   = 24, then 25 of the three files, as far as the code comes
-use Prim.Native.Nat.{ℕ, ◌+◌, ◌≤◌, ◌<◌}
-use mathlib.Core.Path.{◌≡◌, refl, sym, ap, ap₂, subst, fun_ext, ◌∙◌}
-use mathlib.Core.Bool.{Bool, true, false, not, ◌&&◌, and-false}
+--   all_used                                       = 25 of a file, by what is noted
+use Prim.Native.Nat.{ℕ, ◌+◌, ◌<◌}
+use mathlib.Core.Path.{◌≡◌, sym, ap, ap₂, subst, fun_ext, ◌∙◌}
+use mathlib.Core.Bool.{Bool, true, false, not, or-true}
+use native.Mathlib.Omega.{arith}
 use mathlib.Core.List.{List, [], ◌∷◌}
 use lib.Dec.{eqb, ltb, lit≤}
-use lib.ListN.{length, get_or, set, length-set, get_or-eq_default}
+use lib.ListN.{length, get_or}
 use borrow.Author.Tests.{eq-eqb, ne_eqb, lt-ltb, le-ltb}
 use Rattle.rules.specs.Places.{pick}
 use Rattle.rules.specs.Plan.{refused, №, first_of, up_to, run}
@@ -17,45 +18,30 @@ use Rattle.rules.specs.Sheet.{Sheet}
 use Rattle.rules.specs.Lines.{is_header, is_data, heads}
 use Rattle.rules.specs.Points.{point_at, point}
 use Rattle.rules.specs.Text.{cols}
-use Rattle.rules.specs.Codes.{used_code, code_span, rule24, rule25, codes_fit}
+use Rattle.rules.specs.Codes.{used_code, code_span, rule25}
 use Rattle.rules.proofs.Medium.{ranked_column}
-use Rattle.rules.proofs.Steps.{before_met, need_broken}
+use Rattle.rules.proofs.Steps.{need_broken}
 use Rattle.lines.specs.declared.Reading.{Reading}
-use Rattle.lines.specs.declared.Verdict.{Verdict}
-use Rattle.lines.specs.declared.Verdict.TheVariants.{Fine, Refused}
-use Rattle.lines.specs.Paper.{paper}
 use Rattle.lines.specs.Reading.{medium_of, sheet_of}
 use Rattle.lines.proofs.Sheets.{lawful, layout_is, row_own}
 use Rattle.fields.specs.Figures.{low_index}
 use Rattle.fields.proofs.Codes.{two_columns}
 use Rattle.form.specs.Known.{owned, Known}
-use Rattle.form.proofs.Laws.{is_met, stops_at}
 use Rattle.keys.proofs.Letters.{header_own}
 use Rattle.keys.proofs.Read.{instrument_at}
-use Rattle.codes.specs.Named.{Kind, place_for, place_used, is_noted, noted, allowed, note_fits, all_noted, Noted}
+use Rattle.codes.specs.Named.{Kind, place_for, place_used, allowed, note_fits, all_noted, Noted}
 use Rattle.codes.proofs.Naming.{used_is}
 
 -- a place of the array
-module _ (a : List ℕ) (p : ℕ) where
-  pub note_beyond : length a ≤ p → (true ≡ not (is_noted a p)) × (a ≡ noted a p)
-  unfolding pick
-  note_beyond h = (rw (get_or-eq_default a 0 {n = p} h), rw (le-ltb p (length a) h))
+module _ (a : List Bool) (p : ℕ) where
+  pub allowed_here : get_or a p false ≡ true → allowed a p ≡ true
+  allowed_here e = rw (e, or-true (not (ltb p (length a))))
 
-  pub note_again : (get_or a p 0 ≡ 0 → ⊥) → (false ≡ not (is_noted a p)) × (a ≡ noted a p)
-  unfolding pick
-  note_again n = (rw (ne_eqb _ 0 n), rw (ne_eqb _ 0 n, and-false (ltb p (length a))))
+  pub refused_here : p < length a → get_or a p false ≡ false → allowed a p ≡ false
+  refused_here h e = rw (e, lt-ltb p (length a) h)
 
-  pub note_new : p < length a → get_or a p 0 ≡ 0 → (true ≡ not (is_noted a p)) × (set a p 1 ≡ noted a p)
-  unfolding pick
-  note_new h e = (rw (eq-eqb _ 0 e), rw (lt-ltb p (length a) h, eq-eqb _ 0 e))
-
-  pub noted_length : length (noted a p) ≡ length a
-  unfolding pick
-  noted_length = go (ltb p (length a) && eqb (get_or a p 0) 0)
-    where
-      go : (t : Bool) → length (pick t (set a p 1) a) ≡ length a
-      go true = length-set a p 1
-      go false = refl
+pub allowed_none : (a : List Bool) → length a ≡ 243 → allowed a 243 ≡ true
+allowed_none a s = rw (le-ltb 243 (length a) (omega arith))
 
 -- a line in the medium's own bytes
 module _ (how : Reading) (f : List ℕ) (k : ℕ) (l : List ℕ) (e : l ≡ owned (sheet_of how f) k) where
@@ -100,50 +86,16 @@ module _ (how : Reading) (f : List ℕ) (k : ℕ) (l : List ℕ) (e : l ≡ owne
           ∙ ap (λ (L : Layout). at (file.row k) L.code) (sym (layout_is how f)) ∙ sym (rw (ne_eqb i 3 z))) y
 
 -- 25 of a line whose code is not noted, at the column that the code has
-pub note_broken : (a : List ℕ) (i : ℕ) (f : Sheet) (k c : ℕ) → f.layout ≡ sps93 → c ≡ (code_span sps93 i).first → allowed a (place_used i f k) ≡ false
+pub note_broken : (a : List Bool) (i : ℕ) (f : Sheet) (k c : ℕ) → f.layout ≡ sps93 → c ≡ (code_span sps93 i).first → allowed a (place_used i f k) ≡ false
     → refused (№ 25 i (k + 1) c) ≡ run (note_fits a i f k)
 note_broken a i f k c y e n =
     ap (λ (c : ℕ). refused (№ 25 i (k + 1) c)) (e ∙ ap (λ (L : Layout). (code_span L i).first) (sym y)) ∙ need_broken _ _ n
 
 -- 25 of a file, by what is noted of the header
-module _ (r : Sheet) (y : r.layout ≡ sps93) (a : List ℕ) (w : Noted r (heads r) a) (i : ℕ) (m : Kind i) (f : Sheet) (x : f.layout ≡ sps93) where
-  pub all_used : run (all_noted a i f) ≡ run (up_to f.count (rule25 i r f))
-  unfolding rule25 run
-  all_used = ap (first_of f.count) (fun_ext (λ k. used_is r y a w i m f x k (№ 25 i (k + 1) (code_span f.layout i).first)))
-
--- 24, then 25 of the three files: the verdict of each as far as the code comes
-module _ (how : Reading) (f g h : List ℕ) (v : Verdict) (p : paper v ≡ run (up_to (heads (sheet_of how f)) (rule24 (sheet_of how f)))) where
-  abbrev r : Sheet
-  r = sheet_of how f
-
-  abbrev s : Sheet
-  s = sheet_of how g
-
-  abbrev x : Sheet
-  x = sheet_of how h
-
-  pub stops_24 : {a b c d : ℕ} → v ≡ Refused a b c d → paper v ≡ run (codes_fit r s x)
-  unfolding codes_fit
-  stops_24 z = stops_at v _ p z _
-
-  module _ (a : v ≡ Fine) (n : List ℕ) (w : Noted r (heads r) n) (u : Verdict) (q : paper u ≡ run (all_noted n 1 r)) where
-    of_r : paper u ≡ run (up_to r.count (rule25 1 r r))
-    of_r = q ∙ all_used r (layout_is how f) n w 1 (lit≤ tt, lit≤ tt) r (layout_is how f)
-
-    pub stops_r : {a b c d : ℕ} → u ≡ Refused a b c d → paper u ≡ run (codes_fit r s x)
-    unfolding codes_fit
-    stops_r z = stops_at u _ of_r z _ ∙ before_met _ _ (is_met v _ p a)
-
-    module _ (b : u ≡ Fine) (t : Verdict) (c : paper t ≡ run (all_noted n 2 s)) where
-      of_s_lem : paper t ≡ run (up_to s.count (rule25 2 r s))
-      of_s_lem = c ∙ all_used r (layout_is how f) n w 2 (lit≤ tt, lit≤ tt) s (layout_is how g)
-
-      pub stops_s : {a b c d : ℕ} → t ≡ Refused a b c d → paper t ≡ run (codes_fit r s x)
-      unfolding codes_fit
-      stops_s z = stops_at t _ of_s_lem z _ ∙ before_met _ _ (is_met u _ of_r b) ∙ before_met _ _ (is_met v _ p a)
-
-      pub last_x : t ≡ Fine → (o : Verdict) → paper o ≡ run (all_noted n 3 x) → paper o ≡ run (codes_fit r s x)
-      unfolding codes_fit
-      last_x z o d =
-          d ∙ all_used r (layout_is how f) n w 3 (lit≤ tt, lit≤ tt) x (layout_is how h)
-          ∙ before_met _ _ (is_met t _ of_s_lem z) ∙ before_met _ _ (is_met u _ of_r b) ∙ before_met _ _ (is_met v _ p a)
+pub all_used : (how : Reading) (f g : List ℕ) (a : List Bool) → Noted (sheet_of how f) (heads (sheet_of how f)) a → (i : ℕ) → Kind i
+    → run (all_noted a i (sheet_of how g)) ≡ run (up_to (sheet_of how g).count (rule25 i (sheet_of how f) (sheet_of how g)))
+unfolding rule25 run
+all_used how f g a w i m =
+    let s = sheet_of how g in
+    ap (first_of s.count)
+    (fun_ext (λ k. used_is (sheet_of how f) (layout_is how f) a w i m s (layout_is how g) k (№ 25 i (k + 1) (code_span s.layout i).first)))

@@ -5,10 +5,11 @@
 --   kind_on L l         = the kind of table of which l is the first record, 0 where it is none
 --   place_on L l        = the place of the code that a header line names, 243 where it names none
 --   place_used i f k    = the place of the code that line k of file i uses
---   is_noted a p        = place p is noted; noted a p = a with p noted; allowed a p = p is noted, or no place
+--   is_noted a p        = place p is noted; allowed a p = p is noted, or no place
+--   place_or o          = the place that the code has at hand, 243 where it has none; kind_or o, line_or o = the same of a kind, a line, and 0
 --   Noted r n a        = the places of the codes that the first n lines of R name are noted, and no others
 --   note_fits a i f k   = 25 of line k of file i, by what is noted; all_noted a i f = of all its lines
-use Rattle.std.specs.Prelude.{ℕ, ◌+◌, ◌-◌, ◌*◌, ◌≤◌, ◌<◌, ◌≡◌, Bool, not, ◌&&◌, ◌||◌, List, eqb, ltb, length, get_or, set}
+use Rattle.std.specs.Prelude.{ℕ, ◌+◌, ◌-◌, ◌*◌, ◌≤◌, ◌<◌, ◌≡◌, Bool, false, not, ◌||◌, List, eqb, ltb, length, get_or, Option, Some, None}
 use Rattle.rules.specs.Places.{pick, some}
 use Rattle.rules.specs.Plan.{Plan, №, file_x, need, up_to}
 use Rattle.rules.specs.Text.{col, cols, same}
@@ -38,21 +39,30 @@ place_on L l = pick (eqb (kind_on L l) 0) 243 (place_for (kind_on L l) (at l L.h
 unfoldable pub place_used : ℕ → Sheet → ℕ → ℕ
 place_used i f k = pick (is_data f k) (place_for i (used_code i f k)) 243
 
-abbrev pub is_noted : List ℕ → ℕ → Bool
-is_noted a p = not (eqb (get_or a p 0) 0)
+abbrev pub place_or : Option ℕ → ℕ
+place_or (Some p) = p
+place_or None = 243
 
-abbrev pub noted : List ℕ → ℕ → List ℕ
-noted a p = pick (ltb p (length a) && eqb (get_or a p 0) 0) (set a p 1) a
+abbrev pub kind_or : Option ℕ → ℕ
+kind_or (Some i) = i
+kind_or None = 0
 
-abbrev pub allowed : List ℕ → ℕ → Bool
+abbrev pub line_or : Option ℕ → ℕ
+line_or (Some k) = k
+line_or None = 0
+
+abbrev pub is_noted : List Bool → ℕ → Bool
+is_noted a p = get_or a p false
+
+abbrev pub allowed : List Bool → ℕ → Bool
 allowed a p = not (ltb p (length a)) || is_noted a p
 
-pub record Noted (r : Sheet) (n : ℕ) (a : List ℕ) : Type 0 where
+pub record Noted (r : Sheet) (n : ℕ) (a : List Bool) : Type 0 where
   pub size : length a ≡ 243
   pub at : (p : ℕ) → p < 243 → is_noted a p ≡ some n (λ j. eqb (place_on sps93 (r.row j)) p)
 
-abbrev pub note_fits : List ℕ → ℕ → Sheet → ℕ → Plan
+abbrev pub note_fits : List Bool → ℕ → Sheet → ℕ → Plan
 note_fits a i f k = need (allowed a (place_used i f k)) (№ 25 i (k + 1) (code_span f.layout i).first)
 
-abbrev pub all_noted : List ℕ → ℕ → Sheet → Plan
+abbrev pub all_noted : List Bool → ℕ → Sheet → Plan
 all_noted a i f = up_to f.count (note_fits a i f)

@@ -7,7 +7,7 @@ use Rattle.codes.specs.Named.{numbered}
 use Rattle.codes.proofs.tables.opens.Goals as goal
 
 pub loop-n-init : goal.loop-n-init
-loop-n-init c = (omega arith, some_none _)
+loop-n-init c = some_none _
 
 pub overflow_mul-step : goal.overflow_mul-step
 overflow_mul-step c = let at = c.loop-n in
@@ -33,11 +33,11 @@ returns-then-is_numbered c = record {
 
 pub loop-n-preserved : goal.loop-n-preserved
 loop-n-preserved c = let at = c.loop-n in
-    (omega arith, some_more _ at.n at.invariant.1 (sym c.is_numbered.ensures.value ∙ c.if-is_numbered.false))
+    some_more _ at.n at.invariant (sym c.is_numbered.ensures.value ∙ c.if-is_numbered.false)
 
 pub returns : goal.returns
 returns c = record {
   value = let at = c.loop-n in
       let a = c.args in
-      sym at.invariant.1 ∙ ap (numbered a.l.now a.first a.step) (omega arith);
+      sym at.invariant ∙ ap (numbered a.l.now a.first a.step) (omega arith);
 }
