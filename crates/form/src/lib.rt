@@ -61,8 +61,7 @@ fn line_fits(how: Reading, f: &[u8], l: &[u8; 80], i: u8, k: usize, headers: boo
     requires l_value { (l.now ≡ (sheet_of how f.now).row k) × (is_header l.now ≡ true → headers ≡ headers_to (sheet_of how f.now) k) }
     ensures verdict { paper result ≡ run (line_fits i (sheet_of how f.now) k) }
 {
-    let c = lines::stray(how, f, k);
-    if c != 0 {
+    if let Some(c) = lines::stray(how, f, k) {
         return lines::at_line(3, i, k, c);
     }
     rule4(l, i, k, headers)?;

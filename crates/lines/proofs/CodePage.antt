@@ -67,9 +67,6 @@ taken_is b n e = rw (← e) (go n)
 abbrev pub NoGap : List ℕ → ℕ → Type 0
 NoGap t c = (i : ℕ) → i < c → get_or t i 0 ≡ 0 → ⊥
 
-pub no_gap_more : (t : List ℕ) (c : ℕ) → (get_or t c 0 ≡ 0 → ⊥) → NoGap t c → NoGap t (c + 1)
-no_gap_more t c n w i g = more (rw (← (add-one c)) g) (λ q. w i q) (λ q e. n (ap (λ (j : ℕ). get_or t j 0) (sym q) ∙ e))
-
 -- so that each of the bytes that they translate is taken
 pub no_gap_taken : (l t : List ℕ) → length l ≡ 80 → t ≡ ranked (char_in page) l → NoGap t 80 → (c : ℕ) → c < 80
     → ltb 0 (char_in page (get_or l c 0)) ≡ true

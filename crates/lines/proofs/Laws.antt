@@ -1,8 +1,8 @@
--- Laws that the proofs of this crate share: a line that is copied column by column, the walk over its bytes, and the look at all of them.
-use Rattle.std.proofs.Common.{◌≡◌, ℕ, suc, ◌+◌, ◌-◌, ◌<◌, ◌≤◌, min, Bool, true, false, ◌&&◌, eqb, List, [], ◌∷◌, length, get_or, take, drop, set, sym, ap, ◌∙◌}
-use Rattle.std.proofs.Common.{subst, ap₂, add-one, arith, length-drop, length-take, get_or-drop, drop-cons, get_or-set_other, get_or-take, get_or-set_same}
-use Rattle.std.proofs.Common.{ext_get_or, eq-eqb, ne_eqb, le-leb}
-use mathlib.Core.Bool.{and-true}
+-- Laws that the proofs of this crate share: the walk over a line's bytes, and the look at all of them.
+use Rattle.std.proofs.Common.{◌≡◌, ℕ, zero, suc, ◌+◌, ◌-◌, ◌/◌, ◌<◌, ◌≤◌, min, Bool, true, false, eqb, List, [], ◌∷◌, length, get_or, take, drop, ap, ◌∙◌}
+use Rattle.std.proofs.Common.{refl, ap₂, add-one, arith, drop-cons}
+use Rattle.std.proofs.Common.{eq-eqb, ne_eqb, le-leb}
+use lib.Pointwise.{pointwise}
 use borrow.Author.Tests.{lt-leb}
 use Rattle.rules.specs.Places.{pick}
 use Rattle.rules.specs.Text.{same}
@@ -12,11 +12,14 @@ use Rattle.rules.specs.Calls.{on, none, choice}
 use Rattle.rules.specs.Plan.{Verdict, fine, refused, №, run, ◌before◌}
 use Rattle.rules.specs.Sheet.{Sheet, most_lines, all_lines}
 use Rattle.rules.specs.Form.{stray_from, ending, rule1, rule2, rule29}
-use Rattle.rules.proofs.Tests.{more}
 use Rattle.rules.proofs.Least.{least_below}
 use Rattle.rules.proofs.Steps.{need_met, need_broken, before_met, before_broken}
 use Rattle.rules.specs.MeetsDisc.{Proper}
-use Rattle.lines.specs.Reading.{Printed}
+use Rattle.std.specs.Prelude.{Option, Some, None}
+use Rattle.lines.specs.Paper.{unless_none}
+use Rattle.lines.specs.declared.Reading.{Reading}
+use Rattle.lines.specs.Reading.{Printed, medium_of, sheet_of}
+use Rattle.lines.proofs.Sheets.{lawful, all_by, closing_by}
 
 -- the medium of a number
 pub chosen_disc : (n : ℕ) → n ≡ 1 → on disc ≡ choice n
@@ -31,24 +34,19 @@ pub chosen_none : (n : ℕ) → (n ≡ 1 → ⊥) → (n ≡ 2 → ⊥) → none
 unfolding choice pick
 chosen_none n p q = rw (ne_eqb _ _ p, ne_eqb _ _ q)
 
--- the first c columns of l are those of f from a on
-abbrev pub Copied : List ℕ → List ℕ → ℕ → ℕ → Type 0
-Copied f l a c = (length l ≡ 80) × ((i : ℕ) → i < c → get_or l i 0 ≡ get_or f (a + i) 0)
+-- a number above 0 is no word for none
+pub some_of : (n m : ℕ) → 0 < n → n ≡ m → Some n ≡ unless_none m
+some_of zero m h e = absurd (omega arith)
+some_of (suc n) m h e = ap unless_none e
 
-pub copied_more : (f l : List ℕ) (a c : ℕ) → c < 80 → Copied f l a c → (i : ℕ) → i < c + 1 → get_or (set l c (get_or f (a + c) 0)) i 0 ≡ get_or f (a + i) 0
-copied_more f l a c h w i g =
-    more (rw (← (add-one c)) g)
-    (λ q. let ne : i ≡ c → ⊥ = λ e. omega arith in get_or-set_other l c i (get_or f (a + c) 0) 0 ne ∙ w.1 i q)
-    (λ q.
-    let n = w.0 in
-    ap (λ (j : ℕ). get_or (set l c (get_or f (a + c) 0)) j 0) q ∙ get_or-set_same l c (get_or f (a + c) 0) 0 (omega arith)
-    ∙ ap (λ (j : ℕ). get_or f (a + j) 0) (sym q))
+-- what an answer of the code says of it
+pub given : (o : Option ℕ) (n c : ℕ) → o ≡ unless_none n → o ≡ Some c → (c ≡ n) × (c ≡ 0 → ⊥)
+given o zero c p q = absurd (let z : ◌≡◌ {A = ℕ} 0 1 = cc in omega arith)
+given o (suc n) c p q = let e : c ≡ suc n = cc in (e, λ z. omega arith)
 
-pub copied_all : (f l : List ℕ) (a : ℕ) → a + 80 ≤ length f → Copied f l a 80 → l ≡ take 80 (drop a f)
-copied_all f l a h w =
-    let n = w.0 in
-    let m : length (take 80 (drop a f)) ≡ 80 = simp (length-take, length-drop) (omega arith) in
-    ext_get_or 0 l (take 80 (drop a f)) (n ∙ sym m) (λ i g. w.1 i (omega arith) ∙ sym (get_or-take 80 (drop a f) i 0 (omega arith) ∙ get_or-drop a f i 0))
+pub not_given : (o : Option ℕ) (n : ℕ) → o ≡ unless_none n → o ≡ None → n ≡ 0
+not_given o zero p q = refl
+not_given o (suc n) p q = absurd (let z : ◌≡◌ {A = ℕ} 0 1 = cc in omega arith)
 
 -- what is left of w bytes from a on, after c of them
 pub rest_step : (f : List ℕ) (a w c : ℕ) → c < w → a + w ≤ length f
@@ -73,19 +71,6 @@ module _ (takes : ℕ → ℕ → Bool) (f : List ℕ) (a w c X : ℕ) (e : stra
     unfolding stray_from pick
     stray_step y =
         ap (λ (m : ℕ). stray_from takes m (take (w - (c + 1)) (drop (a + (c + 1)) f))) (add-one (c + 1)) ∙ (rw (rest_step f a w c h l, ← q, y)) ∙ e
-
--- the c bytes from a on are printable where the greatest of them, less 32, is at most 94
-abbrev pub PrintedTo : List ℕ → ℕ → ℕ → ℕ → Type 0
-PrintedTo f a m c = m ≤ 94 → (i : ℕ) → i < c → Printed (get_or f (a + i) 0)
-
-pub printed_more : (f : List ℕ) (a m n c : ℕ) → PrintedTo f a m c → m ≤ n → (n ≤ 94 → Printed (get_or f (a + c) 0)) → PrintedTo f a n (c + 1)
-printed_more f a m n c h l b s i g =
-    more (rw (← (add-one c)) g)
-    (λ q. h (omega arith) i q)
-    (λ q. ap_printed (a + c) (a + i) (omega arith) (b s))
-  where
-    ap_printed : (x y : ℕ) → x ≡ y → Printed (get_or f x 0) → Printed (get_or f y 0)
-    ap_printed x y e p = subst (λ (m : ℕ). Printed (get_or f m 0)) e p
 
 -- 80 printable bytes, CR and LF are a clean line
 pub proper_all : (f : List ℕ) (a : ℕ) → ((c : ℕ) → c < 80 → Printed (get_or f (a + c) 0)) → get_or f (a + 80) 0 ≡ 13 → get_or f (a + 81) 0 ≡ 10
@@ -138,26 +123,29 @@ ending_few f = least_below (all_lines f) f.ends
 
 -- the first three bytes of a record
 module _ (f : List ℕ) (a : ℕ) (h : a + 80 ≤ length f) where
-  three : take 3 (take 80 (drop a f)) ≡ get_or f a 0 ∷ get_or f (a + 1) 0 ∷ get_or f (a + 2) 0 ∷ []
-  three =
+  first_three : (g : List ℕ → List ℕ) → take 3 (g (drop a f)) ≡ take 3 (g (get_or f a 0 ∷ get_or f (a + 1) 0 ∷ get_or f (a + 2) 0 ∷ drop (a + 3) f))
+  first_three g =
       let b = drop-cons f a 0 (omega arith) in
       let c = drop-cons f (suc a) 0 (omega arith) in
       let d = drop-cons f (suc (suc a)) 0 (omega arith) in
       let y : suc a ≡ a + 1 = omega arith in
       let z : suc (suc a) ≡ a + 2 = omega arith in
-      ap (λ (l : List ℕ). take 3 (take 80 l)) (b ∙ ap (λ (l : List ℕ). get_or f a 0 ∷ l) (c ∙ ap (λ (l : List ℕ). get_or f (suc a) 0 ∷ l) d))
-      ∙ ap₂ (λ (m n : ℕ). get_or f a 0 ∷ get_or f m 0 ∷ get_or f n 0 ∷ []) y z
+      let x : suc (suc (suc a)) ≡ a + 3 = omega arith in
+      ap (λ (l : List ℕ). take 3 (g l)) (b ∙ ap (λ (l : List ℕ). get_or f a 0 ∷ l) (c ∙ ap (λ (l : List ℕ). get_or f (suc a) 0 ∷ l) d))
+      ∙ ap₂ (λ (m n : ℕ). take 3 (g (get_or f a 0 ∷ get_or f m 0 ∷ get_or f n 0 ∷ drop (suc (suc (suc a))) f))) y z
+      ∙ ap (λ (n : ℕ). take 3 (g (get_or f a 0 ∷ get_or f (a + 1) 0 ∷ get_or f (a + 2) 0 ∷ drop n f))) x
 
-  pub eof_is : tape.ends (take 80 (drop a f)) ≡ (eqb (get_or f a 0) 197 && (eqb (get_or f (a + 1) 0) 214 && (eqb (get_or f (a + 2) 0) 198 && true)))
+  pub ends_is : (n : ℕ) → n ≡ 3 → pointwise eqb (take n (drop a f)) (197 ∷ 214 ∷ 198 ∷ []) ≡ tape.ends (take 80 (drop a f))
   unfolding tape same
-  eof_is = rw three
+  ends_is n e = rw (e, first_three (λ l. l), first_three (take 80))
 
-  pub eof_first : (get_or f a 0 ≡ 197 → ⊥) → false ≡ tape.ends (take 80 (drop a f))
-  eof_first n = sym (eof_is ∙ rw (ne_eqb _ _ n))
-
-  module _ (e : get_or f a 0 ≡ 197) where
-    pub eof_second : (get_or f (a + 1) 0 ≡ 214 → ⊥) → false ≡ tape.ends (take 80 (drop a f))
-    eof_second n = sym (eof_is ∙ rw (eq-eqb _ _ e, ne_eqb _ _ n))
-
-    pub eof_third : get_or f (a + 1) 0 ≡ 214 → (t : Bool) → t ≡ eqb (get_or f (a + 2) 0) 198 → t ≡ tape.ends (take 80 (drop a f))
-    eof_third d t q = q ∙ sym (eof_is ∙ rw (eq-eqb _ _ e, eq-eqb _ _ d, and-true))
+-- how the numbers lie by which the end of a file is judged
+pub end_bounds : (how : Reading) (w : ℕ) → w ≡ (medium_of how).stride → (f : List ℕ) (c : ℕ) → c ≡ (medium_of how).closing → (e : ℕ)
+    → e ≡ ending (sheet_of how f) → all_lines (sheet_of how f) ≤ most_lines → (e ≤ length f / w) × ((length f / w ≤ 9999) × (c ≤ 1))
+unfolding most_lines
+end_bounds how w q f c p e r h =
+    let n = all_by how w q f in
+    let k = closing_by how w q f c p in
+    let m = ending_few (sheet_of how f) in
+    let o = (lawful how).once in
+    (omega arith, (omega arith, omega arith))

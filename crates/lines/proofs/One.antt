@@ -36,8 +36,6 @@ use Rattle.lines.specs.contracts.page.translated as translated
 use Rattle.lines.proofs.page.translated.Reads as translated_reads
 use Rattle.lines.specs.contracts.proper.byte_fits as byte_fits
 use Rattle.lines.proofs.proper.byte_fits.Reads as byte_fits_reads
-use Rattle.lines.specs.contracts.eof.lines_before as lines_before
-use Rattle.lines.proofs.eof.lines_before.Reads as lines_before_reads
 use Rattle.lines.specs.contracts.eof.first_eof as first_eof
 use Rattle.lines.proofs.eof.first_eof.Reads as first_eof_reads
 use Rattle.lines.specs.contracts.stray as stray
@@ -122,9 +120,6 @@ translated_one κs a v v' w w' = alike
 
 pub byte_fits_one : One byte_fits.ended byte_fits_reads.Post
 byte_fits_one κs a v v' w w' = alike
-
-pub lines_before_one : One lines_before.ended lines_before_reads.Post
-lines_before_one κs a v v' w w' = alike
 
 pub first_eof_one : One first_eof.ended first_eof_reads.Post
 first_eof_one κs a v v' w w' = alike

@@ -1,30 +1,14 @@
 // The record that ends a tape.
-ghost use Rattle.std.specs.Prelude.{◌≡◌, ◌+◌, ◌-◌, ◌*◌, ◌≤◌, length, take, drop};
+ghost use Rattle.std.specs.Prelude.{◌≡◌, ◌+◌, ◌*◌, ◌≤◌, length, take, drop};
 ghost use Rattle.rules.specs.Places.{least};
 ghost use Rattle.rules.specs.Tape.{tape};
-
-// How many of n records stand before the last.
-pub fn lines_before(n: usize) -> usize
-    ensures value { result ≡ n - 1 }
-{
-    if n == 0 {
-        return 0;
-    }
-    n - 1
-}
 
 // The record from `at` on has EOF in columns 1 to 3.
 fn says_eof(f: &[u8], at: usize) -> bool
     requires { at + 80 ≤ length f.now }
     ensures value { result ≡ tape.ends (take 80 (drop at f.now)) }
 {
-    if f[at] != 197 {
-        return false;
-    }
-    if f[at + 1] != 214 {
-        return false;
-    }
-    f[at + 2] == 198
+    f[at..at + 3] == [197, 214, 198]
 }
 
 // The first of n records that has, or n.

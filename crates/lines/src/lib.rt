@@ -11,7 +11,7 @@ ghost use Rattle.rules.specs.Calls.{choice as choice_of};
 ghost use Rattle.rules.specs.MeetsDisc.{Proper};
 ghost use Rattle.rules.specs.Form.{stray as stray_of, ending as ending_of, rule1, rule2, rule29};
 ghost use Rattle.rules.specs.Show.{shown as columns_of, start, of_s, show as show_of, start_in};
-ghost use Rattle.lines.specs.Paper.{paper, told, into};
+ghost use Rattle.lines.specs.Paper.{paper, told, unless_none, into};
 ghost use Rattle.lines.specs.Reading.{on_disc, medium_of, chosen_by, sheet_of, columns_at, Printed};
 
 mod eof;
@@ -37,14 +37,14 @@ pub struct Refusal {
 pub type Verdict = Result<(), Refusal>;
 
 // The form in which files come.
-#[derive(Clone, Copy)]
+#[derive(Clone, Copy, Debug, PartialEq, Eq)]
 pub enum Medium {
     Disc,
     Tape,
 }
 
 // How the files of a set are read. Only this crate looks into it.
-#[derive(Clone, Copy)]
+#[derive(Clone, Copy, Debug, PartialEq, Eq)]
 pub struct Reading {
     pub medium: Medium,
 }
@@ -77,8 +77,7 @@ pub fn chosen(medium: u64) -> Option<Reading>
 fn stride(how: Reading) -> usize
     ensures value { result ≡ (medium_of how).stride }
 {
-    let m = how.medium;
-    match m {
+    match how.medium {
         Medium::Disc => 82,
         Medium::Tape => 80,
     }
@@ -88,8 +87,7 @@ fn stride(how: Reading) -> usize
 fn closing(how: Reading) -> usize
     ensures value { result ≡ (medium_of how).closing }
 {
-    let m = how.medium;
-    match m {
+    match how.medium {
         Medium::Disc => 0,
         Medium::Tape => 1,
     }
@@ -124,10 +122,9 @@ pub fn at_line(n: u8, i: u8, k: usize, c: u8) -> Verdict
 pub fn line_count(how: Reading, f: &[u8]) -> usize
     ensures value { result ≡ (sheet_of how f.now).count }
 {
-    let m = how.medium;
-    match m {
+    match how.medium {
         Medium::Disc => f.len() / 82,
-        Medium::Tape => eof::lines_before(f.len() / 80),
+        Medium::Tape => (f.len() / 80).saturating_sub(1),
     }
 }
 
@@ -136,8 +133,7 @@ fn ending(how: Reading, f: &[u8]) -> usize
     ensures value { result ≡ ending_of (sheet_of how f.now) }
 {
     let n = f.len() / stride(how);
-    let m = how.medium;
-    match m {
+    match how.medium {
         Medium::Disc => n,
         Medium::Tape => eof::first_eof(f, n),
     }
@@ -194,8 +190,7 @@ pub fn line_of(how: Reading, f: &[u8], k: usize) -> [u8; 80]
     ensures value { result ≡ (sheet_of how f.now).row k }
 {
     let l = columns(f, stride(how) * k);
-    let m = how.medium;
-    match m {
+    match how.medium {
         Medium::Disc => l,
         Medium::Tape => page::translated(l),
     }
@@ -214,8 +209,7 @@ pub fn is_letter(how: Reading, b: u8, c: u8) -> bool
     requires { (65 ≤ c) × (c ≤ 90) }
     ensures value { result ≡ ((medium_of how).char_of b == c) }
 {
-    let m = how.medium;
-    match m {
+    match how.medium {
         Medium::Disc => b == c,
         Medium::Tape => b == page::capital(c),
     }
@@ -225,8 +219,7 @@ pub fn is_letter(how: Reading, b: u8, c: u8) -> bool
 pub fn char_of(how: Reading, b: u8) -> u8
     ensures value { result ≡ (medium_of how).char_of b }
 {
-    let m = how.medium;
-    match m {
+    match how.medium {
         Medium::Disc => b,
         Medium::Tape => page::char_of(b),
     }
@@ -237,8 +230,7 @@ fn is_clean(how: Reading, f: &[u8], k: usize) -> bool
     requires { k < (sheet_of how f.now).count }
     ensures value { result ≡ true → stray_of (sheet_of how f.now) k ≡ 0 }
 {
-    let m = how.medium;
-    match m {
+    match how.medium {
         Medium::Disc => proper::all_proper(f, 82 * k),
         Medium::Tape => page::all_taken(page::translated(columns(f, 80 * k))),
     }
@@ -248,37 +240,34 @@ fn is_clean(how: Reading, f: &[u8], k: usize) -> bool
 fn takes(how: Reading, c: usize, b: u8) -> bool
     ensures value { result ≡ (medium_of how).takes c b }
 {
-    let m = how.medium;
-    match m {
+    match how.medium {
         Medium::Disc => proper::byte_fits(c, b),
         Medium::Tape => page::char_of(b) != 0,
     }
 }
 
 // 3 of line k, column by column.
-fn first_stray(how: Reading, f: &[u8], k: usize) -> u8
+fn first_stray(how: Reading, f: &[u8], k: usize) -> Option<u8>
     requires { k < (sheet_of how f.now).count }
-    ensures value { result ≡ stray_of (sheet_of how f.now) k }
+    ensures value { result ≡ unless_none (stray_of (sheet_of how f.now) k) }
 {
     let w = stride(how);
     let at = w * k;
-    let mut c: usize = 0;
-    while c < w {
+    for c in 0..w {
         if !takes(how, c + 1, f[at + c]) {
-            return c as u8 + 1;
+            return Some(c as u8 + 1);
         }
-        c += 1;
     }
-    0
+    None
 }
 
-// 3 of line k: the lowest of its columns whose byte is outside its range, or 0.
-pub fn stray(how: Reading, f: &[u8], k: usize) -> u8
+// 3 of line k: the lowest of its columns whose byte is outside its range.
+pub fn stray(how: Reading, f: &[u8], k: usize) -> Option<u8>
     requires { k < (sheet_of how f.now).count }
-    ensures value { result ≡ stray_of (sheet_of how f.now) k }
+    ensures value { result ≡ unless_none (stray_of (sheet_of how f.now) k) }
 {
     if is_clean(how, f, k) {
-        return 0;
+        return None;
     }
     first_stray(how, f, k)
 }

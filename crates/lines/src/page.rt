@@ -38,10 +38,8 @@ pub fn translated(l: [u8; 80]) -> [u8; 80]
 {
     let chars = CHARS;
     let mut t = [0; 80];
-    let mut c = 0;
-    while c < 80 {
+    for c in 0..80 {
         t[c] = look(&chars, l[c]);
-        c += 1;
     }
     t
 }

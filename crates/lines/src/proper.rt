@@ -21,11 +21,7 @@ pub fn byte_fits(c: usize, b: u8) -> bool
 fn greater(m: u8, b: u8) -> u8
     ensures value { (m ≤ result) × (result ≤ 94 → Printed b) }
 {
-    let t = std::num::wrapping_sub_u8(b, 32);
-    if m < t {
-        return t;
-    }
-    m
+    m.max(std::num::wrapping_sub_u8(b, 32))
 }
 
 // The 80 bytes from `at` on are printable. It looks at all of them and keeps the greatest, so that they are compared many at a time.
@@ -46,11 +42,5 @@ pub fn all_proper(f: &[u8], at: usize) -> bool
     requires { at + 82 ≤ length f.now }
     ensures value { result ≡ true → (c : ℕ) → c < 82 → Proper (c + 1) (slice_index f.now (at + c)) }
 {
-    if f[at + 80] != 13 {
-        return false;
-    }
-    if f[at + 81] != 10 {
-        return false;
-    }
-    all_printed(f, at)
+    f[at + 80] == 13 && f[at + 81] == 10 && all_printed(f, at)
 }

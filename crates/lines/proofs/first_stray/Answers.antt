@@ -1,8 +1,9 @@
 -- What `lines::first_stray` leaves to show.
-use Rattle.std.proofs.Common.{◌∙◌, add-zero, arith}
+use Rattle.std.proofs.Common.{ap, ◌∙◌, add-zero, arith}
+use Rattle.lines.specs.Paper.{unless_none}
 use native.Mathlib.Nat.{sub-zero}
 use Rattle.lines.specs.Reading.{medium_of}
-use Rattle.lines.proofs.Laws.{stray_end, stray_stop, stray_step}
+use Rattle.lines.proofs.Laws.{stray_end, stray_stop, stray_step, some_of}
 use Rattle.lines.proofs.Sheets.{place, stray_from_lem}
 use Rattle.lines.proofs.first_stray.Goals as goal
 
@@ -11,7 +12,7 @@ overflow_mul-at c = let a = c.args in
     omega (arith, place a.how _ c.stride-w.ensures.value a.f.now a.k c.requires)
 
 pub loop-c-init : goal.loop-c-init
-loop-c-init c = (omega arith, rw (add-zero, sub-zero))
+loop-c-init c = rw (add-zero, sub-zero)
 
 pub overflow_add-at : goal.overflow_add-at
 overflow_add-at c = let a = c.args in
@@ -35,23 +36,22 @@ returns-then-not-takes c = record {
       let a = c.args in
       let s = c.stride-w.ensures.value in
       let l = place a.how _ s a.f.now a.k c.requires in
-      stray_stop (medium_of a.how).takes a.f.now _ _ at.c _ at.invariant.1 (omega arith) l.1 _ c.takes.ensures.value c.if-not-takes.true
-      ∙ stray_from_lem a.how _ s a.f.now a.k;
+      some_of _ _ (omega arith)
+      (stray_stop (medium_of a.how).takes a.f.now _ _ at.c _ at.invariant (omega arith) l.1 _ c.takes.ensures.value c.if-not-takes.true
+      ∙ stray_from_lem a.how _ s a.f.now a.k);
 }
 
 pub loop-c-preserved : goal.loop-c-preserved
 loop-c-preserved c = let at = c.loop-c in
     let a = c.args in
-    let l = place a.how _ c.stride-w.ensures.value a.f.now a.k c.requires in (
-      omega arith,
-      stray_step (medium_of a.how).takes a.f.now _ _ at.c _ at.invariant.1 (omega arith) l.1 _ c.takes.ensures.value
-          c.if-not-takes.false,
-    )
+    let l = place a.how _ c.stride-w.ensures.value a.f.now a.k c.requires in
+    stray_step (medium_of a.how).takes a.f.now _ _ at.c _ at.invariant (omega arith) l.1 _ c.takes.ensures.value c.if-not-takes.false
 
 pub returns : goal.returns
 returns c = record {
   value = let at = c.loop-c in
       let a = c.args in
-      stray_end (medium_of a.how).takes a.f.now _ _ at.c _ at.invariant.1 (omega arith) ∙ stray_from_lem a.how _ c.stride-w.ensures.value
-      a.f.now a.k;
+      ap unless_none
+      (stray_end (medium_of a.how).takes a.f.now _ _ at.c _ at.invariant (omega arith) ∙ stray_from_lem a.how _ c.stride-w.ensures.value
+      a.f.now a.k);
 }

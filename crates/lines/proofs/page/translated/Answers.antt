@@ -4,22 +4,18 @@ use Rattle.lines.proofs.CodePage.{chars_at, translated_more, translated_all}
 use Rattle.lines.proofs.page.translated.Goals as goal
 
 pub loop-c-init : goal.loop-c-init
-loop-c-init c = (omega arith, (chars_at, (refl, λ i h. absurd (omega arith))))
+loop-c-init c = (chars_at, (refl, λ i h. absurd (omega arith)))
 
 pub look-requires : goal.look-requires
-look-requires c = c.loop-c.invariant.1.0
+look-requires c = c.loop-c.invariant.0
 
 pub loop-c-preserved : goal.loop-c-preserved
 loop-c-preserved c = let at = c.loop-c in
-    let w = at.invariant.1.1 in (
-      omega arith,
+    let w = at.invariant.1 in (
+      at.invariant.0,
       (
-        at.invariant.1.0,
-        (
-          length-set at.t at.c _ ∙ w.0,
-          translated_more c.args.l at.t at.c _ (omega arith)
-              c.look.ensures.value w,
-        ),
+        length-set at.t at.c _ ∙ w.0,
+        translated_more c.args.l at.t at.c _ (omega arith) c.look.ensures.value w,
       ),
     )
 
@@ -27,5 +23,5 @@ pub returns : goal.returns
 returns c = record {
   value = let at = c.loop-c in
       let e : at.c ≡ 80 = omega arith in
-      translated_all _ at.t (search rules) (rw e at at.invariant.1.1);
+      translated_all _ at.t (search rules) (rw e at at.invariant.1);
 }
