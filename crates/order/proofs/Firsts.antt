@@ -2,13 +2,11 @@
 -- the line just before.
 --   like_is          = a line that has a key, that of line k
 --   joined_is        = of relation lines: the last earlier line like k is the one just before
---   linked_records   = what the code tests of relation lines
 --   neighbour, head  = the first place repeats nothing; any other repeats what its neighbour has
 --   is_first         = a line that repeats one and that no pair of neighbours undercuts is the first to
---   lesser-*         = what one pair of neighbours does to the least line yet
---   low_more         = and to the pairs before
+--   lesser_this      = what repeats its neighbour
 use Prim.Native.Nat.{ℕ, zero, suc, ◌+◌, ◌≤◌, ◌<◌}
-use mathlib.Core.Path.{◌≡◌, refl, sym, ap, subst, ◌∙◌}
+use mathlib.Core.Path.{◌≡◌, refl, sym, ap, ◌∙◌}
 use mathlib.Core.Logic.{◌↔◌, ⊎_elim}
 use mathlib.Core.Bool.{Bool, true, false, not, ◌&&◌}
 use mathlib.Core.List.{List}
@@ -48,9 +46,6 @@ joined_is Records p j (suc k) y l h = go (p k) refl
     go : (b : Bool) → p k ≡ b → p k ≡ eqb (j + 1) (suc k)
     go true e = e ∙ sym (eq-eqb (j + 1) (suc k) (omega (arith, h k (omega arith) e)))
     go false e = e ∙ sym (ne_eqb (j + 1) (suc k) (λ z. clash (sym e ∙ ap p (let q : k ≡ j = omega arith in q) ∙ y)))
-
-pub linked_records : (t : By) (j k : ℕ) → t ≡ Records → eqb (j + 1) k ≡ linked t j k
-linked_records t j k e = rw e
 
 module _ (t : By) (f : Sheet) (k : ℕ) (h : repeats t f k ≡ true) where
   repeats_takes : takes_at t f k ≡ true
@@ -155,28 +150,8 @@ module _ (t : By) (f : Sheet) (o : List ℕ) (m : ℕ) (s : Small (key_at t f)) 
             let e : r ≡ f.count = omega arith in
             e ∙ sym (least_none f.count (repeats t f) (λ k h. none_before k (omega arith)))
 
--- j and k are the lines at places e and e + 1 as the code has them
-module _ (t : By) (f : Sheet) (o : List ℕ) (e r j k : ℕ) (ej : j ≡ nth o e) (ek : k ≡ nth o (e + 1)) (seen : Seen t f r) where
-  pub lesser_linked : (b : Bool) → b ≡ linked t j k → b ≡ true → (r ≤ r) × (Low t (key_at t f) o r e × Seen t f r)
-  lesser_linked b q h = (omega arith, ((λ u v. clash (sym u ∙ rw (← ej, ← ek) (sym q ∙ h))), seen))
-
-  pub lesser_other : (b : Bool) → b ≡ same_key (key_at t f j) (key_at t f k) → b ≡ false → (r ≤ r) × (Low t (key_at t f) o r e × Seen t f r)
-  lesser_other b q h = (omega arith, ((λ u v. clash (sym h ∙ q ∙ rw (ej, ek) v)), seen))
-
-  pub lesser_this : (m : ℕ) → Small (key_at t f) → f.count ≤ 4294967296 → InOrder t f o m → e + 1 < m → k < r
-      → (b c : Bool) → b ≡ linked t j k → b ≡ false → c ≡ same_key (key_at t f j) (key_at t f k) → c ≡ true
-      → (k ≤ r) × (Low t (key_at t f) o k e × Seen t f k)
-  lesser_this m s small ord l h b c p x q y =
-      let u : linked t (nth o e) (nth o (e + 1)) ≡ false = rw (← ej, ← ek) (sym p ∙ x) in
-      let v : same_key (key_at t f (nth o e)) (key_at t f (nth o (e + 1))) ≡ true = rw (← ej, ← ek) (sym q ∙ y) in (
-        omega arith,
-        ((λ _ _. omega arith), (λ _. ap (repeats t f) ek ∙ neighbour t f o m s small ord e l ∙ rw (u, v))),
-      )
-
-pub low_more : (t : By) (f : Sheet) (o : List ℕ) (r r' e : ℕ) → r' ≤ r → ((d : ℕ) → d < e → Low t (key_at t f) o r d) → Low t (key_at t f) o r' e
-    → (d : ℕ) → d < e + 1 → Low t (key_at t f) o r' d
-low_more t f o r r' e l h y d z =
-    ⊎_elim
-    (λ (q : d ≡ e). subst (λ (x : ℕ). Low t (key_at t f) o r' x) (sym q) y)
-    (λ (q : d < e). λ u v. omega (arith, h d q u v))
-    (eq-or-lt_of_le (omega arith))
+-- the line at place e + 1 repeats the one at place e
+pub lesser_this : (t : By) (f : Sheet) (o : List ℕ) (e m : ℕ) → Small (key_at t f) → f.count ≤ 4294967296 → InOrder t f o m → e + 1 < m
+    → linked t (nth o e) (nth o (e + 1)) ≡ false → same_key (key_at t f (nth o e)) (key_at t f (nth o (e + 1))) ≡ true
+    → repeats t f (nth o (e + 1)) ≡ true
+lesser_this t f o e m s small ord l u v = neighbour t f o m s small ord e l ∙ rw (u, v)

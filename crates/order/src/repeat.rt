@@ -15,11 +15,7 @@ fn linked(by: By, j: usize, k: usize) -> bool
     requires { j < 4294967296 }
     ensures value { result ≡ linked_by by j k }
 {
-    match by {
-        By::Points => false,
-        By::Receivers => false,
-        By::Records => j + 1 == k,
-    }
+    by == By::Records && j + 1 == k
 }
 
 // The lesser of r and the line at place e + 1, where that repeats the one at place e.
@@ -28,19 +24,13 @@ fn lesser(z: Keyed, f: &[u8], o: &[u32], m: usize, e: usize, r: usize) -> usize
     requires in_order { InOrder z.by (sheet_of z.how f.now) o.now m × Seen z.by (sheet_of z.how f.now) r }
     ensures value { (result ≤ r) × (Low z.by (keys_in z f.now) o.now result e × Seen z.by (sheet_of z.how f.now) result) }
 {
-    let by = z.by;
     let j = o[e] as usize;
     let k = o[e + 1] as usize;
-    if r <= k {
-        return r;
+    if k < r && !linked(z.by, j, k) && keys::same(z, f, j, k) {
+        k
+    } else {
+        r
     }
-    if linked(by, j, k) {
-        return r;
-    }
-    if keys::same(z, f, j, k) {
-        return k;
-    }
-    r
 }
 
 // By one pass over the first m places of the order.
@@ -49,12 +39,9 @@ pub fn first(z: Keyed, f: &[u8], o: &[u32], m: usize) -> usize
     requires in_order { InOrder z.by (sheet_of z.how f.now) o.now m }
     ensures value { result ≡ least (sheet_of z.how f.now).count (repeats z.by (sheet_of z.how f.now)) }
 {
-    let how = z.how;
-    let mut r = lines::line_count(how, f);
-    let mut e = 0;
-    while e + 1 < m {
-        r = lesser(z, f, o, m, e, r);
-        e += 1;
+    let mut r = lines::line_count(z.how, f);
+    for e in 1..m {
+        r = lesser(z, f, o, m, e - 1, r);
     }
     r
 }
