@@ -1,7 +1,8 @@
 -- Killed lines of R.
---   flag_one, flag_none = 1 where a line is killed, else 0
+--   flag_is             = 1 where a line is killed, else 0
 --   none_dead           = where no line of R is killed, an accepted set has no dead traces
 use Prim.Native.Nat.{ℕ, ◌*◌, ◌<◌}
+use mir.Val.{bool_byte}
 use native.Mathlib.Nat.{zero-mul}
 use mathlib.Core.Path.{◌≡◌, refl, sym, ap, ◌∙◌}
 use mathlib.Core.Bool.{Bool, true, false}
@@ -19,14 +20,10 @@ use Rattle.dead.specs.Dead.{Accepted, dead_at}
 use Rattle.dead.proofs.Counting.{sum_zero}
 use Rattle.dead.proofs.Accepted.{killed_on, there, dead_by_receivers}
 
-module _ (t b : Bool) (e : t ≡ b) where
-  pub flag_one : t ≡ true → ◌≡◌ {A = ℕ} 1 (pick b 1 0)
-  unfolding pick
-  flag_one y = rw (← e, y)
-
-  pub flag_none : t ≡ false → ◌≡◌ {A = ℕ} 0 (pick b 1 0)
-  unfolding pick
-  flag_none y = rw (← e, y)
+pub flag_is : (b : Bool) → bool_byte b ≡ pick b 1 0
+unfolding pick
+flag_is true = refl
+flag_is false = refl
 
 module _ (r x : Sheet) (ok : Accepted r x) (none : some r.count (λ k. is_killed (point_at r k)) ≡ false) where
   alive : (k : ℕ) → k < r.count → is_killed (point_at r k) ≡ false

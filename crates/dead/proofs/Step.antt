@@ -1,5 +1,6 @@
--- The increment of a relation line as the code reads it from its own bytes, by the text of 1993.
-use Prim.Native.Nat.{ℕ}
+-- The increment and the receivers of a relation line as the code reads them from its own bytes, by the text of 1993.
+use Prim.Native.Nat.{ℕ, ◌+◌}
+use native.Mathlib.Omega.{arith}
 use mathlib.Core.Path.{◌≡◌, refl, ap, ◌∙◌}
 use mathlib.Core.List.{List}
 use Rattle.rules.specs.Text.{cols}
@@ -9,14 +10,17 @@ use Rattle.rules.specs.Sheet.{Sheet}
 use Rattle.rules.specs.Rows.{relation_rows}
 use Rattle.rules.specs.Relations.{reach, reach_at}
 use Rattle.rules.proofs.Form.{data_is}
+use Rattle.std.specs.Int.{abs_diff}
+use Rattle.rules.specs.Cover.{receivers}
 use Rattle.lines.specs.Reading.{sheet_of}
 use Rattle.lines.specs.declared.Reading.{Reading}
 use Rattle.lines.proofs.Sheets.{layout_is}
-use Rattle.fields.specs.Figures.{low_index}
+use Rattle.fields.specs.Figures.{figures, low_index}
 use Rattle.form.specs.Known.{owned, Known}
 use Rattle.form.proofs.Known.{formed}
 use Rattle.keys.specs.Held.{RelationLine}
 use Rattle.keys.proofs.Owned.{index_own}
+use Rattle.keys.proofs.Read.{from_receiver_at, to_receiver_at}
 
 step_read : (x : Sheet) → Known file_x x → (k : ℕ) → RelationLine x k → low_index (at (owned x k) x.layout.step) ≡ (reach_at x k).step
 unfolding reach_at reach relation_rows
@@ -33,3 +37,10 @@ module _ (how : Reading) (f : List ℕ) (w : Known file_x (sheet_of how f)) (k :
   pub step_at : low_index (cols l 47 47) ≡ (reach_at (sheet_of how f) k).step
   unfolding at sps93
   step_at = spanned _ (step_read (sheet_of how f) w k h)
+
+  pub span_at : (m n d : ℕ) → m ≡ figures (cols l 64 71) → n ≡ figures (cols l 72 79) → d ≡ abs_diff m n → d + 1 ≡ receivers (reach_at (sheet_of how f) k)
+  unfolding receivers
+  span_at m n d em en ed =
+      let a = em ∙ from_receiver_at how f w k h l e in
+      let b = en ∙ to_receiver_at how f w k h l e in
+      omega arith

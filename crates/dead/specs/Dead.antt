@@ -2,6 +2,7 @@
 --   killed_row r o j   = the receiver in row j is killed
 --   Lines r o t       = the rows of o are lines of R, and t has a place for each
 --   Counted r o t     = t holds at each row how many are killed up to it and with it
+--   Tally r o t       = both
 --   Accepted r x      = R and X stand in an accepted set, with some S, in one medium
 --   Summed r o x t    = so they are, o has the receivers in order, and t is counted
 --   dead_at r x k      = the dead traces of line k, where it is a relation line
@@ -29,6 +30,10 @@ pub record Lines (r : Sheet) (o t : List ℕ) : Type 0 where
 abbrev pub Counted : Sheet → List ℕ → List ℕ → Type 0
 Counted r o t = (j : ℕ) → j < length o → nth t j ≡ count (j + 1) (killed_row r o)
 
+pub record Tally (r : Sheet) (o t : List ℕ) : Type 0 where
+  pub lines : Lines r o t
+  pub counted : Counted r o t
+
 pub record Accepted (r x : Sheet) : Type 0 where
   pub shots : Sheet
   pub met : Meets r shots x
@@ -39,8 +44,7 @@ pub record Accepted (r x : Sheet) : Type 0 where
 pub record Summed (r : Sheet) (o : List ℕ) (x : Sheet) (t : List ℕ) : Type 0 where
   pub set : Accepted r x
   pub rows : Rows r o
-  pub lines : Lines r o t
-  pub counted : Counted r o t
+  pub tally : Tally r o t
 
 abbrev pub dead_at : Sheet → Sheet → ℕ → ℕ
 dead_at r x k = pick (is_data x k) (dead_of r (reach_at x k)) 0

@@ -1,5 +1,4 @@
--- What the loops of `dead::any_killed` keep.
-use Prim.Native.Nat.{◌-◌, ◌≤◌}
+-- What the loop of `dead::any_killed` keeps.
 use mathlib.Core.Path.{◌≡◌}
 use mathlib.Core.Bool.{false}
 use Rattle.rules.specs.Places.{some}
@@ -8,7 +7,4 @@ use Rattle.lines.specs.Reading.{sheet_of}
 use Rattle.dead.proofs.any_killed.Given as goal
 
 abbrev pub invariant-loop-k : goal.invariant-loop-k
-invariant-loop-k l = (l.k ≤ l.n) × (some l.k (λ k. is_killed (point_at (sheet_of l.how l.r) k)) ≡ false)
-
-abbrev pub decreases-loop-k : goal.decreases-loop-k
-decreases-loop-k l = l.n - l.k
+invariant-loop-k l = some l.k (λ k. is_killed (point_at (sheet_of l.how l.r) k)) ≡ false

@@ -1,5 +1,4 @@
--- What the loops of `dead::count_killed` keep.
-use Prim.Native.Nat.{◌-◌, ◌≤◌}
+-- What the loop of `dead::count_killed` keeps.
 use mathlib.Core.Path.{◌≡◌}
 use lib.ListN.{length}
 use Rattle.rules.specs.Places.{count}
@@ -9,9 +8,8 @@ use Rattle.dead.proofs.Running.{Passed}
 use Rattle.dead.proofs.count_killed.Given as goal
 
 abbrev pub invariant-loop-j : goal.invariant-loop-j
-invariant-loop-j l =
-    (l.j ≤ length l.o) × ((length l.t ≡ length l.initial.t) × ((l.n ≡ count l.j (killed_row (sheet_of l.how l.r) l.o))
-    × Passed (sheet_of l.how l.r) l.o l.t l.j))
-
-abbrev pub decreases-loop-j : goal.decreases-loop-j
-decreases-loop-j l = length l.o - l.j
+invariant-loop-j l = record {
+  size : length l.t ≡ length l.initial.t;
+  sum : l.n ≡ count l.j (killed_row (sheet_of l.how l.r) l.o);
+  passed : Passed (sheet_of l.how l.r) l.o l.t l.j;
+}
