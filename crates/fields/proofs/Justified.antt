@@ -14,6 +14,9 @@ use Rattle.rules.specs.Places.{pick}
 use Rattle.rules.specs.Text.{col, cols}
 use Rattle.rules.specs.Numbers.{digit, Number, malformed, digits, justified, whole, negative, minus_or, signed, then, pointed, decimal, tenths, size}
 use Rattle.rules.proofs.Columns.{cols_end, cols_step, cols_length, cols_at, cols_take}
+use Rattle.std.specs.Prelude.{Option, None, Some}
+use Rattle.fields.specs.Paper.{number}
+use Rattle.fields.specs.declared.Number.{Number as Read}
 use Rattle.fields.specs.Ink.{ink_from, point_digit, tenths_of}
 
 pub ink_above : (c : ℕ) (bs : List ℕ) → c ≤ ink_from c bs
@@ -132,6 +135,25 @@ module _ (read : List ℕ → Number) (bs : List ℕ) (t : Bool) (e : t ≡ poin
   pub without_point : t ≡ false → read bs ≡ tenths read bs
   unfolding tenths pick
   without_point n = rw (← e, n)
+
+-- what was read, where it is a number or none
+module _ (o : Option Read) (v : Number) (e : number o ≡ v) where
+  pub none_read : o ≡ None → malformed ≡ v
+  none_read q = ap number (sym q) ∙ e
+
+  pub some_read : (n : Read) → o ≡ Some n → number (Some n) ≡ v
+  some_read n q = ap number (sym q) ∙ e
+
+-- no number before the point
+pub decimal_none : (read : List ℕ → Number) (l : List ℕ) (a b : ℕ) → 1 ≤ a → a < b → malformed ≡ read (cols l a (b - 2))
+    → malformed ≡ decimal read (cols l a b)
+unfolding tenths_of then pick
+decimal_none read l a b o h e =
+    go (point_digit l b) ∙ ap (tenths_of l b) e ∙ decimal_long read l a b o h
+  where
+    go : (t : Bool) → malformed ≡ pick t malformed malformed
+    go true = refl
+    go false = refl
 
 pub point_digit_is : (l : List ℕ) (b : ℕ) → point_digit l b ≡ true → (48 ≤ get_or l (b - 1) 0) × (get_or l (b - 1) 0 ≤ 57)
 unfolding point_digit digit

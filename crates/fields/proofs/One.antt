@@ -1,6 +1,7 @@
 -- The contracts of this crate leave one outcome: for every public function, any two results that meet its contract are the same.
 use native.Mathlib.Nat.{le_refl}
 use mathlib.Core.Path.{◌≡◌, refl, sym, ◌∙◌}
+use Rattle.std.specs.Prelude.{Option, None, Some}
 use Rattle.outcome.specs.One.{One, alike}
 use Rattle.fields.specs.contracts.bytes.blank as blank
 use Rattle.fields.proofs.bytes.blank.Reads as blank_reads
@@ -56,13 +57,11 @@ use Rattle.fields.specs.contracts.names.pack as pack
 use Rattle.fields.proofs.names.pack.Reads as pack_reads
 use Rattle.fields.specs.contracts.names.name as name
 use Rattle.fields.proofs.names.name.Reads as name_reads
-use Rattle.fields.specs.contracts.names.same_name as same_name
-use Rattle.fields.proofs.names.same_name.Reads as same_name_reads
 use Rattle.fields.specs.contracts.fits as fits
 use Rattle.fields.proofs.fits.Reads as fits_reads
 use Rattle.fields.specs.Paper.{number}
 use Rattle.fields.specs.declared.Number.{Number}
-use Rattle.fields.specs.declared.Number.TheVariants.{Malformed, Plus, Minus}
+use Rattle.fields.specs.declared.Number.TheVariants.{Plus, Minus}
 use Rattle.fields.specs.contracts.families.digit1 as digit1
 use Rattle.fields.proofs.families.digit1.Reads as digit1_reads
 use Rattle.fields.specs.contracts.families.is_code as is_code
@@ -72,16 +71,16 @@ use Rattle.fields.proofs.figures.number.Reads as figures_number_reads
 use Rattle.fields.specs.contracts.figures.index as figures_index
 use Rattle.fields.proofs.figures.index.Reads as figures_index_reads
 
-pub number_one : (a b : Number) → number a ≡ number b → a ≡ b
-number_one Malformed Malformed e = refl
-number_one Malformed (Plus n) e = cc
-number_one Malformed (Minus n) e = cc
-number_one (Plus m) Malformed e = cc
-number_one (Plus m) (Plus n) e = cc
-number_one (Plus m) (Minus n) e = cc
-number_one (Minus m) Malformed e = cc
-number_one (Minus m) (Plus n) e = cc
-number_one (Minus m) (Minus n) e = cc
+pub number_one : (a b : Option Number) → number a ≡ number b → a ≡ b
+number_one None None e = refl
+number_one None (Some (Plus n)) e = cc
+number_one None (Some (Minus n)) e = cc
+number_one (Some (Plus m)) None e = cc
+number_one (Some (Plus m)) (Some (Plus n)) e = cc
+number_one (Some (Plus m)) (Some (Minus n)) e = cc
+number_one (Some (Minus m)) None e = cc
+number_one (Some (Minus m)) (Some (Plus n)) e = cc
+number_one (Some (Minus m)) (Some (Minus n)) e = cc
 
 pub blank_one : One blank.ended blank_reads.Post
 blank_one κs a v v' w w' = alike
@@ -163,9 +162,6 @@ pack_one κs a v v' w w' = alike
 
 pub name_one : One name.ended name_reads.Post
 name_one κs a v v' w w' = alike
-
-pub same_name_one : One same_name.ended same_name_reads.Post
-same_name_one κs a v v' w w' = alike
 
 pub fits_one : One fits.ended fits_reads.Post
 fits_one κs a v v' w w' = alike

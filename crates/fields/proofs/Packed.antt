@@ -1,7 +1,7 @@
 -- Names and tapes as numbers to the base 256: equal where all their columns are, and in the order of their bytes.
 --   Alike xs ys   = two texts of one length, of bytes
 --   packed_same   = their numbers are equal where they are, and packed_less = less where they are
---   names_same    = so what `same_name` answers of two names is `same_name`, and names_less = their numbers' order is `less_name`
+--   names_same    = so what `==` answers of two names is `same_name`, and names_less = their numbers' order is `less_name`
 use Prim.Native.Nat.{ℕ, zero, suc, ◌+◌, ◌-◌, ◌*◌, ◌≤◌, ◌<◌}
 use native.Mathlib.Omega.{arith}
 use mathlib.Core.Path.{◌≡◌, refl, sym, ap, ap₂, ◌∙◌}

@@ -2,20 +2,20 @@
 --   number n      = what a field holds
 --   kind k        = the rule of a field
 --   sized k a b   = columns a to b stand in a line, and are so many as the rule k is asked of; Sized says it
-use Rattle.std.specs.Prelude.{ℕ, ◌+◌, ◌≤◌, ◌<◌, ◌≡◌, Bool, true, ◌&&◌, eqb, leb, ltb}
+use Rattle.std.specs.Prelude.{ℕ, ◌+◌, ◌≤◌, ◌<◌, ◌≡◌, Bool, true, ◌&&◌, eqb, leb, ltb, Option, None, Some}
 use Rattle.rules.specs.Numbers.{Number as PaperNumber, malformed, plus, minus}
 use Rattle.rules.specs.Kinds.{Kind as PaperKind, starts_non_blank, digits_only, coordinate, index, water_depth, time}
 use Rattle.rules.specs.Kinds.{whole_number, signed_number, signed_decimal, decimal_number, code}
 use Rattle.fields.specs.declared.Number.{Number}
-use Rattle.fields.specs.declared.Number.TheVariants.{Malformed, Plus, Minus}
+use Rattle.fields.specs.declared.Number.TheVariants.{Plus, Minus}
 use Rattle.fields.specs.declared.Kind.{Kind}
 use Rattle.fields.specs.declared.Kind.TheVariants.{StartsNonBlank, DigitsOnly, Coordinate, Index, WaterDepth, Time}
 use Rattle.fields.specs.declared.Kind.TheVariants.{WholeNumber, SignedNumber, SignedDecimal, DecimalNumber, Code}
 
-abbrev pub number : Number → PaperNumber
-number Malformed = malformed
-number (Plus n) = plus n
-number (Minus n) = minus n
+abbrev pub number : Option Number → PaperNumber
+number None = malformed
+number (Some (Plus n)) = plus n
+number (Some (Minus n)) = minus n
 
 abbrev pub kind : Kind → PaperKind
 kind StartsNonBlank = starts_non_blank

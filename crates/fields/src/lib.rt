@@ -14,23 +14,22 @@ pub mod names;
 pub mod numbers;
 pub mod ranges;
 
-// What a field holds: malformed, or a sign and a size.
-#[derive(Clone, Copy)]
+// A sign and a size: minus zero stands apart from zero.
+#[derive(Clone, Copy, Debug, PartialEq, Eq)]
 pub enum Number {
-    Malformed,
     Plus(u64),
     Minus(u64),
 }
 
 // A line name: all its 16 columns, as two numbers of 8 bytes.
-#[derive(Clone, Copy)]
+#[derive(Clone, Copy, Debug, PartialEq, Eq)]
 pub struct Name {
     pub hi: u64,
     pub lo: u64,
 }
 
 // The rule of a field, as the paper's tables give it beside the columns.
-#[derive(Clone, Copy)]
+#[derive(Clone, Copy, Debug, PartialEq, Eq)]
 pub enum Kind {
     StartsNonBlank,
     DigitsOnly,

@@ -1,5 +1,5 @@
 // Numbers right justified in columns a to b: blanks, an optional minus, digits, and in one spelling of a decimal a point and one digit.
-ghost use Rattle.std.specs.Prelude.{◌≡◌, ℕ, ◌+◌, ◌^◌, ◌≤◌, ◌<◌, true};
+ghost use Rattle.std.specs.Prelude.{◌≡◌, ℕ, ◌+◌, ◌^◌, ◌≤◌, ◌<◌, true, Some};
 ghost use Rattle.rules.specs.Text.{cols};
 ghost use Rattle.rules.specs.Numbers.{digits as digits_of, whole as whole_of, signed as signed_of, decimal as decimal_of, then as then_of};
 ghost use Rattle.rules.specs.Numbers.{pointed as pointed_in, tenths as spelled_of};
@@ -9,12 +9,6 @@ ghost use Rattle.fields.specs.Paper.{number};
 ghost use Rattle.fields.specs.Ink.{ink_from, point_digit, tenths_of};
 
 use crate::{Number, ranges};
-
-fn wide(b: u8) -> u64
-    ensures { result ≡ b }
-{
-    b as u64
-}
 
 // The first column that is not blank, or the column after the last.
 fn ink(l: &[u8; 80], a: usize, b: usize) -> usize
@@ -32,31 +26,31 @@ fn ink(l: &[u8; 80], a: usize, b: usize) -> usize
 }
 
 // Digits to the last column, at least one.
-pub fn digits(l: &[u8; 80], a: usize, b: usize) -> Number
+pub fn digits(l: &[u8; 80], a: usize, b: usize) -> Option<Number>
     requires { (1 ≤ a) × ((b ≤ 80) × (b < a + 16)) }
     ensures value { number result ≡ digits_of (cols l.now a b) }
 {
     if b < a {
-        return Number::Malformed;
+        return None;
     }
     let mut v: u64 = 0;
     let mut c = a;
     while c <= b {
         let d = l[c - 1];
         if d < 48 {
-            return Number::Malformed;
+            return None;
         }
         if 57 < d {
-            return Number::Malformed;
+            return None;
         }
-        v = 10 * v + wide(d - 48);
+        v = 10 * v + u64::from(d - 48);
         c += 1;
     }
-    Number::Plus(v)
+    Some(Number::Plus(v))
 }
 
 // A whole number: blanks, then digits to the last column.
-pub fn whole(l: &[u8; 80], a: usize, b: usize) -> Number
+pub fn whole(l: &[u8; 80], a: usize, b: usize) -> Option<Number>
     requires { (1 ≤ a) × ((b ≤ 80) × (b < a + 16)) }
     ensures value { number result ≡ whole_of (cols l.now a b) }
 {
@@ -64,40 +58,41 @@ pub fn whole(l: &[u8; 80], a: usize, b: usize) -> Number
     digits(l, c, b)
 }
 
-fn negative(n: Number) -> Number
-    ensures value { number result ≡ negative_of (number n) }
+// With a minus before it, where it has none.
+#[tactic(auto, unfolding(rules::specs::Numbers::negative))]
+fn negative(n: Number) -> Option<Number>
+    ensures value { number result ≡ negative_of (number (Some n)) }
 {
     match n {
-        Number::Malformed => Number::Malformed,
-        Number::Plus(v) => Number::Minus(v),
-        Number::Minus(_) => Number::Malformed,
+        Number::Plus(v) => Some(Number::Minus(v)),
+        Number::Minus(_) => None,
     }
 }
 
 // A whole number with an optional minus before its digits.
-pub fn signed(l: &[u8; 80], a: usize, b: usize) -> Number
+pub fn signed(l: &[u8; 80], a: usize, b: usize) -> Option<Number>
     requires { (1 ≤ a) × ((b ≤ 80) × (b < a + 16)) }
     ensures value { number result ≡ signed_of (cols l.now a b) }
 {
     let c = ink(l, a, b);
     if b < c {
-        return Number::Malformed;
+        return None;
     }
     if l[c - 1] == 45 {
-        return negative(digits(l, c + 1, b));
+        return negative(digits(l, c + 1, b)?);
     }
     digits(l, c, b)
 }
 
 // A number and one digit more.
+#[tactic(auto, unfolding(rules::specs::Numbers::then))]
 fn then(n: Number, d: u8) -> Number
-    requires { (size_of (number n) < 10 ^ 16) × (d ≤ 9) }
-    ensures value { number result ≡ then_of (number n) d }
+    requires { (size_of (number (Some n)) < 10 ^ 16) × (d ≤ 9) }
+    ensures value { number (Some result) ≡ then_of (number (Some n)) d }
 {
     match n {
-        Number::Malformed => Number::Malformed,
-        Number::Plus(v) => Number::Plus(10 * v + wide(d)),
-        Number::Minus(v) => Number::Minus(10 * v + wide(d)),
+        Number::Plus(v) => Number::Plus(10 * v + u64::from(d)),
+        Number::Minus(v) => Number::Minus(10 * v + u64::from(d)),
     }
 }
 
@@ -114,36 +109,36 @@ fn point_digit(l: &[u8; 80], b: usize) -> bool
 }
 
 // The number n before the point, and the digit after it.
-fn tenths(l: &[u8; 80], b: usize, n: Number) -> Number
-    requires { (2 ≤ b) × ((b ≤ 80) × (size_of (number n) < 10 ^ 16)) }
-    ensures value { number result ≡ tenths_of l.now b (number n) }
+fn tenths(l: &[u8; 80], b: usize, n: Number) -> Option<Number>
+    requires { (2 ≤ b) × ((b ≤ 80) × (size_of (number (Some n)) < 10 ^ 16)) }
+    ensures value { number result ≡ tenths_of l.now b (number (Some n)) }
 {
     if !point_digit(l, b) {
-        return Number::Malformed;
+        return None;
     }
-    then(n, l[b - 1] - 48)
+    Some(then(n, l[b - 1] - 48))
 }
 
 // A number, a point and one digit, in tenths.
-fn pointed(l: &[u8; 80], a: usize, b: usize) -> Number
+fn pointed(l: &[u8; 80], a: usize, b: usize) -> Option<Number>
     requires { (1 ≤ a) × ((b ≤ 80) × (b < a + 16)) }
     ensures value { number result ≡ decimal_of whole_of (cols l.now a b) }
 {
     if b <= a {
-        return Number::Malformed;
+        return None;
     }
-    tenths(l, b, whole(l, a, b - 2))
+    tenths(l, b, whole(l, a, b - 2)?)
 }
 
 // The same with an optional minus.
-fn signed_pointed(l: &[u8; 80], a: usize, b: usize) -> Number
+fn signed_pointed(l: &[u8; 80], a: usize, b: usize) -> Option<Number>
     requires { (1 ≤ a) × ((b ≤ 80) × (b < a + 16)) }
     ensures value { number result ≡ decimal_of signed_of (cols l.now a b) }
 {
     if b <= a {
-        return Number::Malformed;
+        return None;
     }
-    tenths(l, b, signed(l, a, b - 2))
+    tenths(l, b, signed(l, a, b - 2)?)
 }
 
 // A point stands in the last column but one.
@@ -158,7 +153,7 @@ fn is_pointed(l: &[u8; 80], a: usize, b: usize) -> bool
 }
 
 // A decimal that has no sign, in tenths: with a point and one digit after it, or digits alone, which count tenths.
-pub fn decimal(l: &[u8; 80], a: usize, b: usize) -> Number
+pub fn decimal(l: &[u8; 80], a: usize, b: usize) -> Option<Number>
     requires { (1 ≤ a) × ((b ≤ 80) × (b < a + 16)) }
     ensures value { number result ≡ spelled_of whole_of (cols l.now a b) }
 {
@@ -169,7 +164,7 @@ pub fn decimal(l: &[u8; 80], a: usize, b: usize) -> Number
 }
 
 // The same with an optional minus.
-pub fn signed_decimal(l: &[u8; 80], a: usize, b: usize) -> Number
+pub fn signed_decimal(l: &[u8; 80], a: usize, b: usize) -> Option<Number>
     requires { (1 ≤ a) × ((b ≤ 80) × (b < a + 16)) }
     ensures value { number result ≡ spelled_of signed_of (cols l.now a b) }
 {
@@ -180,7 +175,7 @@ pub fn signed_decimal(l: &[u8; 80], a: usize, b: usize) -> Number
 }
 
 // Water depth in tenths: a decimal with its point, 0 to 99.9, or whole metres, 0 to 999.
-pub fn water(l: &[u8; 80], a: usize, b: usize) -> Number
+pub fn water(l: &[u8; 80], a: usize, b: usize) -> Option<Number>
     requires { (1 ≤ a) × ((b ≤ 80) × (b < a + 16)) }
     ensures value { number result ≡ water_of (cols l.now a b) }
 {
@@ -188,9 +183,9 @@ pub fn water(l: &[u8; 80], a: usize, b: usize) -> Number
     if ranges::between(0, 999, t) {
         return t;
     }
-    let m = whole(l, a, b);
-    if ranges::between(0, 999, m) {
-        return then(m, 0);
+    let m = whole(l, a, b)?;
+    if ranges::between(0, 999, Some(m)) {
+        return Some(then(m, 0));
     }
-    Number::Malformed
+    None
 }

@@ -7,56 +7,52 @@ ghost use Rattle.fields.specs.Paper.{number};
 use crate::Number;
 
 // From lo to hi.
-pub fn between(lo: u64, hi: u64, n: Number) -> bool
+#[tactic(auto, unfolding(rules::specs::Kinds::between))]
+pub fn between(lo: u64, hi: u64, n: Option<Number>) -> bool
     ensures value { result ≡ is_between lo hi (number n) }
 {
-    match n {
-        Number::Malformed => false,
-        Number::Plus(v) => lo <= v && v <= hi,
-        Number::Minus(_) => false,
-    }
+    matches!(n, Some(Number::Plus(v)) if lo <= v && v <= hi)
 }
 
 // From -lo to hi.
-pub fn within(lo: u64, hi: u64, n: Number) -> bool
+#[tactic(auto, unfolding(rules::specs::Kinds::within))]
+pub fn within(lo: u64, hi: u64, n: Option<Number>) -> bool
     ensures value { result ≡ is_within lo hi (number n) }
 {
     match n {
-        Number::Malformed => false,
-        Number::Plus(v) => v <= hi,
-        Number::Minus(v) => v <= lo,
+        None => false,
+        Some(Number::Plus(v)) => v <= hi,
+        Some(Number::Minus(v)) => v <= lo,
     }
 }
 
-pub fn formed(n: Number) -> bool
+#[tactic(auto, unfolding(rules::specs::Kinds::formed))]
+pub fn formed(n: Option<Number>) -> bool
     ensures value { result ≡ is_formed (number n) }
 {
-    match n {
-        Number::Malformed => false,
-        Number::Plus(_) => true,
-        Number::Minus(_) => true,
-    }
+    n.is_some()
 }
 
 // Without its sign; 0 where it is malformed.
-pub fn size(n: Number) -> u64
+#[tactic(auto, unfolding(rules::specs::Numbers::size))]
+pub fn size(n: Option<Number>) -> u64
     ensures value { result ≡ size_of (number n) }
 {
     match n {
-        Number::Malformed => 0,
-        Number::Plus(v) => v,
-        Number::Minus(v) => v,
+        None => 0,
+        Some(Number::Plus(v) | Number::Minus(v)) => v,
     }
 }
 
 // With its sign: -0 is 0.
-pub fn value(n: Number) -> i64
+#[tactic(auto, unfolding(rules::specs::Numbers::value))]
+pub fn value(n: Option<Number>) -> i64
     requires { size_of (number n) < 2 ^ 62 }
     ensures value { result ≡ value_of (number n) }
 {
     match n {
-        Number::Malformed => 0,
-        Number::Plus(v) => v as i64,
-        Number::Minus(v) => -(v as i64),
+        None => 0,
+        Some(Number::Plus(v)) => v as i64,
+        Some(Number::Minus(v)) => -(v as i64),
     }
 }

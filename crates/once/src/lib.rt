@@ -48,10 +48,8 @@ fn lines_meet(how: Reading, x: &[u8], k: usize, j: usize) -> bool
 {
     let l = lines::own_of(how, x, k);
     let m = lines::own_of(how, x, j);
-    if !names::same_name(names::name(&l, 48), names::name(&m, 48)) {
-        return false;
-    }
-    cover::meets(reach_of(how, x, k), reach_of(how, x, j))
+    names::name(&l, 48) == names::name(&m, 48)
+        && cover::meets(reach_of(how, x, k), reach_of(how, x, j))
 }
 
 // No line from `start` on and before relation line k covers a receiver of it.

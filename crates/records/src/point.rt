@@ -38,7 +38,7 @@ pub struct Point {
 }
 
 // The number n of columns a to b, or nothing where they are blank.
-fn held_at(l: &[u8; 80], a: usize, b: usize, n: Number) -> Held
+fn held_at(l: &[u8; 80], a: usize, b: usize, n: Option<Number>) -> Held
     requires { ((1 ≤ a) × (b ≤ 80)) × (size_of (number n) < 2 ^ 62) }
     ensures value { result ≡ held_of (is_blank (cols l.now a b)) (value_of (number n)) }
 {

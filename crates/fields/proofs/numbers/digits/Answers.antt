@@ -24,8 +24,7 @@ pub overflow_add-v : goal.overflow_add-v
 overflow_add-v c = let at = c.loop-c in
     let a = c.args in
     let h = cap _ at.invariant.1.1.0 (omega arith) in
-    let w = c.wide.ensures in
-    omega arith
+    omega (arith, c.from.ensures)
 
 pub loop-c-preserved : goal.loop-c-preserved
 loop-c-preserved c = let at = c.loop-c in
@@ -33,7 +32,7 @@ loop-c-preserved c = let at = c.loop-c in
       omega arith,
       (
         omega arith,
-        (grow a.a at.c at.invariant.1.0 at.invariant.1.1.0 (let w = c.wide.ensures in omega arith), search (rules, digits_step)),
+        (grow a.a at.c at.invariant.1.0 at.invariant.1.1.0 (omega (arith, c.from.ensures)), search (rules, digits_step)),
       ),
     )
 

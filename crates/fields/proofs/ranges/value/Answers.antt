@@ -1,39 +1,21 @@
 -- What `fields::ranges::value` leaves to show.
-use mir.Syntax.{w64}
-use mir.ValLaws.{to_z_pos}
-use Rattle.fields.proofs.Signs.{negated_back, negated_fits, size_minus, size_plus}
-use Rattle.fields.specs.Paper.{number}
-use Rattle.fields.specs.declared.Number.{Number}
-use Rattle.rules.specs.Numbers.{value}
-use mathlib.Core.Path.{◌∙◌, ap, sym}
+use Rattle.fields.proofs.Signs.{minus_value, negated_fits, plus_value, size_minus, size_plus}
 use native.Mathlib.Omega.{arith}
 use Rattle.fields.proofs.ranges.value.Goals as goal
 
 pub overflow_cast-result : goal.overflow_cast-result
-overflow_cast-result c = let h = size_plus _ _ _ c.in-Plus.is c.requires in
+overflow_cast-result c = let h = size_plus _ _ c.in-Some-Plus.is _ _ (rw c.in-Some-Plus.is at c.in-Some-Plus.field-0-is) c.requires in
     record { sfits = omega arith }
 
-pub overflow_cast-result-in-Minus : goal.overflow_cast-result-in-Minus
-overflow_cast-result-in-Minus c = let h = size_minus _ _ _ c.in-Minus.is c.requires in
+pub overflow_cast-result-in-Some-Minus : goal.overflow_cast-result-in-Some-Minus
+overflow_cast-result-in-Some-Minus c = let h = size_minus _ _ c.in-Some-Minus.is _ _ (rw c.in-Some-Minus.is at c.in-Some-Minus.field-0-is) c.requires in
     record { sfits = omega arith }
 
 pub overflow_sub-result : goal.overflow_sub-result
-overflow_sub-result c = negated_fits _ (size_minus _ _ _ c.in-Minus.is c.requires)
+overflow_sub-result c = negated_fits _ (size_minus _ _ c.in-Some-Minus.is _ _ (rw c.in-Some-Minus.is at c.in-Some-Minus.field-0-is) c.requires)
 
-pub returns-in-Malformed : goal.returns-in-Malformed
-unfolding value
-returns-in-Malformed c = record { value = sym (ap (λ (n : Number). value (number n)) c.in-Malformed.is) }
+pub returns-in-Some-Plus : goal.returns-in-Some-Plus
+returns-in-Some-Plus c = record { value = plus_value _ _ c.in-Some-Plus.is _ c.requires (rw c.in-Some-Plus.is at c.in-Some-Plus.field-0-is) }
 
-pub returns-in-Plus : goal.returns-in-Plus
-unfolding value
-returns-in-Plus c = record {
-  value = let h = size_plus _ _ _ c.in-Plus.is c.requires in
-      to_z_pos w64 _ (omega arith) ∙ sym (ap (λ (n : Number). value (number n)) c.in-Plus.is);
-}
-
-pub returns-in-Minus : goal.returns-in-Minus
-unfolding value
-returns-in-Minus c = record {
-  value = negated_back _ (size_minus _ _ _ c.in-Minus.is c.requires)
-      ∙ sym (ap (λ (n : Number). value (number n)) c.in-Minus.is);
-}
+pub returns-in-Some-Minus : goal.returns-in-Some-Minus
+returns-in-Some-Minus c = record { value = minus_value _ _ c.in-Some-Minus.is _ c.requires (rw c.in-Some-Minus.is at c.in-Some-Minus.field-0-is) }
