@@ -5,7 +5,7 @@
 --   no_row        = what stands beyond a table's end
 --   row_fits m l w = the field of row w of line l obeys its rule, or is free in the marker that m says l is
 --   coded_reach q, coded_relation v, coded_state s, coded_point v = the paper's values as the code holds them
-use Rattle.std.specs.Prelude.{ℕ, ℤ, Bool, true, false, ◌&&◌, ◌||◌, List}
+use Rattle.std.specs.Prelude.{ℕ, ℤ, Bool, true, false, ◌&&◌, ◌||◌, List, Option, Some, None}
 use Rattle.rules.specs.Layout.{sps93, at}
 use Rattle.rules.specs.Kinds.{Kind, starts_non_blank, may_be_blank, fits}
 use Rattle.rules.specs.Points.{Held as PaperHeld, absent, held, State as PaperState, live, killed, marker, Point as PaperPoint}
@@ -14,8 +14,6 @@ use Rattle.fields.specs.Packed.{packed, name_of}
 use Rattle.rules.specs.Rows.{Row as PaperRow, header_rows, point_rows, relation_rows}
 use Rattle.fields.specs.Paper.{kind}
 use Rattle.fields.specs.declared.Kind.{Kind as CodeKind}
-use Rattle.records.specs.declared.point.Held.{Held}
-use Rattle.records.specs.declared.point.Held.TheVariants.{Absent, Value}
 use Rattle.records.specs.declared.point.Point.{Point as PointValues}
 use Rattle.records.specs.declared.state.State.{State}
 use Rattle.records.specs.declared.state.State.TheVariants.{Live, Killed, Marker}
@@ -76,13 +74,13 @@ coded_relation v =
       reach = coded_reach v.reach;
     }
 
-abbrev pub held_of : Bool → ℤ → Held
-held_of true v = Absent
-held_of false v = Value v
+abbrev pub held_of : Bool → ℤ → Option ℤ
+held_of true v = None
+held_of false v = Some v
 
-abbrev pub held_paper : PaperHeld → Held
-held_paper absent = Absent
-held_paper (held v) = Value v
+abbrev pub held_paper : PaperHeld → Option ℤ
+held_paper absent = None
+held_paper (held v) = Some v
 
 abbrev pub coded_state : PaperState → State
 coded_state live = Live

@@ -10,7 +10,7 @@ ghost use Rattle.records.specs.Coded.{coded_reach, coded_relation};
 use fields::{Name, bytes, names, numbers, ranges};
 
 // What a relation line covers, of which tape and record.
-#[derive(Clone, Copy)]
+#[derive(Clone, Copy, Debug, PartialEq, Eq)]
 pub struct Reach {
     pub tape: u64,
     pub number: u32,
@@ -24,7 +24,7 @@ pub struct Reach {
 }
 
 // The reach, its shot, the record increment and the instrument.
-#[derive(Clone, Copy)]
+#[derive(Clone, Copy, Debug, PartialEq, Eq)]
 pub struct Relation {
     pub increment: u32,
     pub instrument: u32,
@@ -53,14 +53,13 @@ pub fn index_at(l: &[u8; 80], a: usize) -> u32
 pub fn reach_of(l: &[u8; 80]) -> Reach
     ensures value { result ≡ coded_reach (reach_values sps93 l.now) }
 {
-    let receiver = names::name(l, 48);
     Reach {
         tape: names::pack(l, 2, 7),
         number: number_at(l, 8, 11),
         from: number_at(l, 39, 42),
         upto: number_at(l, 43, 46),
         step: index_at(l, 47),
-        receiver: receiver,
+        receiver: names::name(l, 48),
         from_receiver: number_at(l, 64, 71),
         to_receiver: number_at(l, 72, 79),
         receiver_index: index_at(l, 80),
@@ -70,14 +69,12 @@ pub fn reach_of(l: &[u8; 80]) -> Reach
 pub fn relation_of(l: &[u8; 80]) -> Relation
     ensures value { result ≡ coded_relation (relation_values sps93 l.now) }
 {
-    let source = names::name(l, 14);
-    let reach = reach_of(l);
     Relation {
         increment: index_at(l, 12),
         instrument: index_at(l, 13),
-        source: source,
+        source: names::name(l, 14),
         shot: number_at(l, 30, 37),
         shot_index: index_at(l, 38),
-        reach: reach,
+        reach: reach_of(l),
     }
 }

@@ -7,7 +7,7 @@ ghost use Rattle.records.specs.Coded.{coded, row_of, rows_of, no_row};
 
 use fields::Kind;
 
-#[derive(Clone, Copy)]
+#[derive(Clone, Copy, Debug, PartialEq, Eq)]
 pub struct Row {
     pub first: usize,
     pub last: usize,
@@ -17,7 +17,7 @@ pub struct Row {
 }
 
 // A table: of header lines, of point lines of file i, of relation lines.
-#[derive(Clone, Copy)]
+#[derive(Clone, Copy, Debug, PartialEq, Eq)]
 pub enum Table {
     Header,
     Point(u8),

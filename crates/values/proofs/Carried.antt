@@ -5,13 +5,26 @@ use Prim.Native.Nat.{ℕ, ◌+◌, ◌*◌}
 use mathlib.Core.Path.{◌≡◌, refl}
 use mathlib.Core.List.{List, [], ◌∷◌}
 use lib.ListN.{take, drop}
+use lib.IntN.{ℤ, pos, negsuc}
+use mir.Syntax.{w64}
+use mir.Val.{of_z}
+use mir.ValLaws.{to_z-of_z}
+use native.Mathlib.Omega.{arith}
 use Rattle.rules.specs.Names.{Name, text}
 use Rattle.rules.specs.Points.{Held, absent, held, State, live, killed, marker, Point}
 use Rattle.rules.specs.Relations.{Relation}
-use Rattle.rules.specs.Carried.{number_after, held_place, state_place, name_high, name_low, point_places, relation_places}
+use Rattle.rules.specs.Carried.{as_place, number_after, held_place, state_place, name_high, name_low, point_places, relation_places}
 use Rattle.fields.specs.Packed.{packed_after, name_of}
 use Rattle.records.specs.Coded.{held_paper, coded_state, coded_point, coded_relation}
 use Rattle.values.specs.Places.{held_number, state_number, point_numbers, relation_numbers}
+
+-- a signed number in 64 bits
+pub as_place_is : (z : ℤ) → as_place z ≡ of_z w64 z
+unfolding as_place
+as_place_is (pos n) = refl
+as_place_is (negsuc n) = omega arith
+
+pub ruleset signed = (as_place_is, to_z-of_z)
 
 packed_number : (v : ℕ) (bs : List ℕ) → packed_after v bs ≡ number_after v bs
 unfolding packed_after number_after

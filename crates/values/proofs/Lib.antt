@@ -1,4 +1,3 @@
 pub mod Lines
-pub mod Signed
 pub mod Carried
 pub mod One

@@ -1,18 +1,16 @@
 -- The code's values as sixteen numbers: those of `Carried`, of names and codes that are numbers already.
 --   held_number h, state_number s       = a field that may be blank, and a state
 --   point_numbers p, relation_numbers v = all values
-use Rattle.std.specs.Prelude.{ℕ, List, [], ◌∷◌}
+use Rattle.std.specs.Prelude.{ℕ, ℤ, List, [], ◌∷◌, Option, Some, None}
 use Rattle.rules.specs.Carried.{as_place, absent_place}
-use Rattle.records.specs.declared.point.Held.{Held}
-use Rattle.records.specs.declared.point.Held.TheVariants.{Absent, Value}
 use Rattle.records.specs.declared.point.Point.{Point}
 use Rattle.records.specs.declared.state.State.{State}
 use Rattle.records.specs.declared.state.State.TheVariants.{Live, Killed, Marker}
 use Rattle.records.specs.declared.relation.Relation.{Relation}
 
-abbrev pub held_number : Held → ℕ
-held_number Absent = absent_place
-held_number (Value n) = as_place n
+abbrev pub held_number : Option ℤ → ℕ
+held_number None = absent_place
+held_number (Some n) = as_place n
 
 abbrev pub state_number : State → ℕ
 state_number Live = 0

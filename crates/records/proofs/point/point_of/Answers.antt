@@ -21,14 +21,14 @@ use lib.Dec.{lit≤}
 use mathlib.Core.Path.{◌∙◌, ap}
 use Rattle.records.proofs.point.point_of.Goals as goal
 
-pub held_at-fixed-requires : goal.held_at-fixed-requires
-held_at-fixed-requires c = ((lit≤ tt, lit≤ tt), rw c.signed.ensures.value (fits_62 _ _ 29 32 (lit≤ tt) (lit≤ tt) (signed_small _)))
+pub held_at-requires : goal.held_at-requires
+held_at-requires c = ((lit≤ tt, lit≤ tt), rw c.signed.ensures.value (fits_62 _ _ 29 32 (lit≤ tt) (lit≤ tt) (signed_small _)))
 
-pub held_at-uphole-requires : goal.held_at-uphole-requires
-held_at-uphole-requires c = ((lit≤ tt, lit≤ tt), rw c.whole.ensures.value (fits_62 _ _ 41 42 (lit≤ tt) (lit≤ tt) (whole_small _)))
+pub held_at-requires-2 : goal.held_at-requires-2
+held_at-requires-2 c = ((lit≤ tt, lit≤ tt), rw c.whole.ensures.value (fits_62 _ _ 41 42 (lit≤ tt) (lit≤ tt) (whole_small _)))
 
-pub held_at-water-requires : goal.held_at-water-requires
-held_at-water-requires c = ((lit≤ tt, lit≤ tt), rw c.water.ensures.value (water_62 _))
+pub held_at-requires-3 : goal.held_at-requires-3
+held_at-requires-3 c = ((lit≤ tt, lit≤ tt), rw c.water.ensures.value (water_62 _))
 
 pub value-requires : goal.value-requires
 value-requires c = rw c.decimal.ensures.value (fits_62 _ _ 33 36 (lit≤ tt) (lit≤ tt) (tenths_small whole whole_small _))
@@ -49,7 +49,7 @@ pub returns : goal.returns
 unfolding point sps93 number_of index_at name_of at holds disc
 returns c = record {
   value = let l = c.args.l.now in
-      let p_name = c.name-name.ensures.value in
+      let p_name = c.name.ensures.value in
       let p_number = c.number_at.ensures.value in
       let p_index = c.index_at.ensures.value in
       let p_code = c.pack.ensures.value in
@@ -57,14 +57,14 @@ returns c = record {
       ∙ ap (λ (how : Reading). coded_state (state_of (at (ranked (medium_of how).char_of l) sps93.code)))
       c.disc.ensures.value
       ∙ ap (λ (m : List ℕ). coded_state (state_of (at m sps93.code))) (ranked_own l)) in
-      let p_fixed = (c.held_at-fixed.ensures.value ∙ ap (λ (n : Number). held_of (blank (cols l 29 32)) (value n))
+      let p_fixed = (c.held_at.ensures.value ∙ ap (λ (n : Number). held_of (blank (cols l 29 32)) (value n))
       c.signed.ensures.value ∙ held_is (blank (cols l 29 32)) (value (signed (cols l 29 32)))) in
       let p_depth = (to_z-of_z w64 c.value.result (record { sfits = c.value.type_inv })
       ∙ c.value.ensures.value ∙ ap value c.decimal.ensures.value) in
       let p_datum = (to_z-of_z w64 c.value-2.result (record { sfits = c.value-2.type_inv }) ∙ c.value-2.ensures.value ∙ ap value c.signed-2.ensures.value) in
-      let p_uphole = (c.held_at-uphole.ensures.value ∙ ap (λ (n : Number). held_of (blank (cols l 41 42)) (value n))
+      let p_uphole = (c.held_at-2.ensures.value ∙ ap (λ (n : Number). held_of (blank (cols l 41 42)) (value n))
       c.whole.ensures.value ∙ held_is (blank (cols l 41 42)) (value (whole (cols l 41 42)))) in
-      let p_water = (c.held_at-water.ensures.value ∙ ap (λ (n : Number). held_of (blank (cols l 43 46)) (value n)) c.water.ensures.value
+      let p_water = (c.held_at-3.ensures.value ∙ ap (λ (n : Number). held_of (blank (cols l 43 46)) (value n)) c.water.ensures.value
       ∙ held_is (blank (cols l 43 46)) (value (water (cols l 43 46)))) in
       let p_easting = (to_z-of_z w64 c.value-3.result
       (record { sfits = c.value-3.type_inv })
