@@ -1,6 +1,6 @@
 -- Lines of one tape and record, by their keys.
 --   mates_are      = of relation lines: the same key
---   first_alone .. = whether the record goes on, as the code finds it
+--   first_alone, goes_is = whether the record goes on, as the code finds it
 --   some_before    = where it does, there is a line before
 --   mates_with     = mates of a mate are mates
 use Prim.Native.Nat.{ℕ, zero, suc, ◌-◌, ◌≤◌, ◌<◌}
@@ -82,20 +82,13 @@ module _ (x : Sheet) (w : Known 3 x) (k : ℕ) (h : RelationLine x k) where
       go true e = records_same x w j g e k h.0 h.1
       go false e = refl
 
-  pub first_alone : k ≡ 0 → false ≡ goes_on x k
+  pub first_alone : k ≡ 0 → goes_on x k ≡ false
   unfolding goes_on is_before
   first_alone z = rw z
 
-  module _ (n : k ≡ 0 → ⊥) (t : Bool) (q : t ≡ takes_at Records x (k - 1)) where
-    just_before : (takes_at Records x (k - 1) && same_key (key_at Records x (k - 1)) (key_at Records x k)) ≡ goes_on x k
-    unfolding goes_on like
-    just_before = let o = h.0 in mates_are (k - 1) (omega arith) ∙ sym (before_is (mates (reaches_of x) k) k n)
-
-    pub no_mate_before : t ≡ false → false ≡ goes_on x k
-    no_mate_before y = let e : takes_at Records x (k - 1) ≡ false = sym q ∙ y in rw e at just_before
-
-    pub mate_before : t ≡ true → (u : Bool) → u ≡ same_key (key_at Records x (k - 1)) (key_at Records x k) → u ≡ goes_on x k
-    mate_before y u f = f ∙ (let e : takes_at Records x (k - 1) ≡ true = sym q ∙ y in rw e at just_before)
+  pub goes_is : (k ≡ 0 → ⊥) → goes_on x k ≡ (takes_at Records x (k - 1) && same_key (key_at Records x (k - 1)) (key_at Records x k))
+  unfolding goes_on like
+  goes_is n = let o = h.0 in sym (mates_are (k - 1) (omega arith) ∙ sym (before_is (mates (reaches_of x) k) k n))
 
   pub line_before : goes_on x k ≡ true → RelationLine x (k - 1)
   unfolding goes_on

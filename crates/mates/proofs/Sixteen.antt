@@ -2,7 +2,7 @@
 --   not_apart   = where 16 is met of a line, the first one apart is further
 use Prim.Native.Nat.{ℕ, ◌+◌, ◌-◌, ◌≤◌, ◌<◌}
 use native.Mathlib.Omega.{arith}
-use mathlib.Core.Path.{◌≡◌, refl, sym, ap, ap₂, ◌∙◌}
+use mathlib.Core.Path.{◌≡◌, refl, sym, ap, ◌∙◌}
 use mathlib.Core.Logic.{⊎_elim}
 use mathlib.Core.Bool.{Bool, true, false, not, ◌&&◌, ◌||◌, or-true, and-true}
 use lib.Dec.{ltb}
@@ -36,37 +36,33 @@ module _ (x : Sheet) (k : ℕ) where
 
   -- where the record goes on
   module _ (y : goes_on x k ≡ true) where
-    module _ (u : Bool) (q : u ≡ same_shot (relation_at x k) (relation_at x (k - 1))) where
-      held : sixteen ≡ u
-      unfolding together goes_on
-      held =
-          let f : every k (λ j. not (of_record_lem j) || is_before of_record_lem k) ≡ true =
-          (every_is k _).1 (λ j l. rw y (or-true (not (of_record_lem j)))) in
-          rw (f, before_asked of_record_lem (λ j. same_shot (relation_at x k) (relation_at x j)) k y)
-          (sym q)
+    held : sixteen ≡ same_shot (relation_at x k) (relation_at x (k - 1))
+    unfolding together goes_on
+    held =
+        let f : every k (λ j. not (of_record_lem j) || is_before of_record_lem k) ≡ true =
+        (every_is k _).1 (λ j l. rw y (or-true (not (of_record_lem j)))) in
+        rw (f, before_asked of_record_lem (λ j. same_shot (relation_at x k) (relation_at x j)) k y)
 
-      pub sixteen_fine : u ≡ true → fine ≡ run (rule16 x k)
-      unfolding rule16
-      sixteen_fine s = need_met _ _ (held ∙ s)
+    pub sixteen_fine : same_shot (relation_at x k) (relation_at x (k - 1)) ≡ true → run (rule16 x k) ≡ fine
+    unfolding rule16
+    sixteen_fine s = sym (need_met _ _ (held ∙ s))
 
-      pub sixteen_changed : u ≡ false → x.layout ≡ sps93 → refused (№ 16 3 (k + 1) 2) ≡ run (rule16 x k)
-      unfolding rule16 sps93
-      sixteen_changed s z = rw (← (ap (λ (L : Layout). L.tape.first) z)) (need_broken _ _ (held ∙ s))
+    pub sixteen_changed : same_shot (relation_at x k) (relation_at x (k - 1)) ≡ false → x.layout ≡ sps93
+        → run (rule16 x k) ≡ refused (№ 16 3 (k + 1) 2)
+    unfolding rule16 sps93
+    sixteen_changed s z = rw (← (ap (λ (L : Layout). L.tape.first) z)) (sym (need_broken _ _ (held ∙ s)))
 
-    module _ (f t : ℕ) (p : f ≡ (reach_at x k).from) (q : t ≡ (reach_at x (k - 1)).upto) where
-      rising : rises (reaches_of x) k ≡ ltb t f
-      unfolding rises reaches_of goes_on
-      rising =
-          before_asked of_record_lem (λ j. ltb (reach_at x j).upto (reach_at x k).from) k y
-          ∙ sym (ap₂ ltb q p)
+    rising : rises (reaches_of x) k ≡ ltb (reach_at x (k - 1)).upto (reach_at x k).from
+    unfolding rises reaches_of goes_on
+    rising = before_asked of_record_lem (λ j. ltb (reach_at x j).upto (reach_at x k).from) k y
 
-      pub seventeen_fine : t < f → fine ≡ run (rule17 x k)
-      unfolding rule17
-      seventeen_fine l = need_met _ _ (rising ∙ lt-ltb _ _ l)
+    pub seventeen_fine : (reach_at x (k - 1)).upto < (reach_at x k).from → run (rule17 x k) ≡ fine
+    unfolding rule17
+    seventeen_fine l = sym (need_met _ _ (rising ∙ lt-ltb _ _ l))
 
-      pub seventeen_broken : f ≤ t → x.layout ≡ sps93 → refused (№ 17 3 (k + 1) 39) ≡ run (rule17 x k)
-      unfolding rule17 sps93
-      seventeen_broken l z = rw (← (ap (λ (L : Layout). L.from.first) z)) (need_broken _ _ (rising ∙ le-ltb _ _ l))
+    pub seventeen_broken : (reach_at x k).from ≤ (reach_at x (k - 1)).upto → x.layout ≡ sps93 → run (rule17 x k) ≡ refused (№ 17 3 (k + 1) 39)
+    unfolding rule17 sps93
+    seventeen_broken l z = rw (← (ap (λ (L : Layout). L.from.first) z)) (sym (need_broken _ _ (rising ∙ le-ltb _ _ l)))
 
   -- where it does not
   module _ (y : goes_on x k ≡ false) where
@@ -74,9 +70,9 @@ module _ (x : Sheet) (k : ℕ) where
     unfolding together goes_on
     alone = rw (y, before_passed of_record_lem (λ j. same_shot (relation_at x k) (relation_at x j)) k y) (and-true _)
 
-    pub seventeen_other : fine ≡ run (rule17 x k)
+    pub seventeen_other : run (rule17 x k) ≡ fine
     unfolding rule17 rises reaches_of goes_on
-    seventeen_other = need_met _ _ (before_passed of_record_lem (λ j. ltb (reach_at x j).upto (reach_at x k).from) k y)
+    seventeen_other = sym (need_met _ _ (before_passed of_record_lem (λ j. ltb (reach_at x j).upto (reach_at x k).from) k y))
 
   module _ (w : Known 3 x) (h : RelationLine x k) (apart : ℕ) (a : IsApart x k apart) where
     like_before : is_before (like Records x k) k ≡ goes_on x k
@@ -116,14 +112,14 @@ module _ (x : Sheet) (k : ℕ) where
         let f : of_record_lem o.0 ≡ true = sym (mates_are x w k h o.0 (omega arith)) ∙ o.2 in
         need_broken _ _ (alone b.1 ∙ every_stop _ o.0 k o.1 (rw f))
 
-    pub sixteen_apart : k ≡ apart → x.layout ≡ sps93 → refused (№ 16 3 (k + 1) 2) ≡ run (rule16 x k)
+    pub sixteen_apart : k ≡ apart → x.layout ≡ sps93 → run (rule16 x k) ≡ refused (№ 16 3 (k + 1) 2)
     unfolding sps93
-    sixteen_apart z y = ap (λ (L : Layout). refused (№ 16 3 (k + 1) L.tape.first)) (sym y) ∙ refuses z
+    sixteen_apart z y = sym (ap (λ (L : Layout). refused (№ 16 3 (k + 1) L.tape.first)) (sym y) ∙ refuses z)
 
-    pub sixteen_new : (k ≡ apart → ⊥) → goes_on x k ≡ false → fine ≡ run (rule16 x k)
+    pub sixteen_new : (k ≡ apart → ⊥) → goes_on x k ≡ false → run (rule16 x k) ≡ fine
     unfolding rule16
     sixteen_new n y =
-        need_met _ _
+        sym (need_met _ _
         (alone y
         ∙ (every_is k _).1
         (λ j l.
@@ -134,7 +130,7 @@ module _ (x : Sheet) (k : ℕ) where
         let v = least_there x.count k (repeats Records x) g r in
         let e = a.0 in
         let i = a.1 in
-        absurd (v.2 k (omega arith) r))))
+        absurd (v.2 k (omega arith) r)))))
 
     pub not_apart : fine ≡ run (rule16 x k) → k + 1 ≤ apart
     not_apart f =

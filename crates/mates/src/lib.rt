@@ -1,4 +1,4 @@
-#![tactic(auto)]
+#![tactic(auto, using(crate::proofs::Used::used), unfolding(keys::specs::Compare::same_key, rules::specs::Places::pick, rules::specs::Sheet::most_lines))]
 // Relation lines of one tape and record: they stand together, with one shot, increment and instrument (16), and their channels rise (17).
 ghost use Rattle.std.specs.Prelude.{◌≡◌, true, ◌<◌};
 ghost use Rattle.rules.specs.Places.{pick};
@@ -20,27 +20,18 @@ pub fn goes_on(how: Reading, x: &[u8], k: usize) -> bool
     requires { Known 3 (sheet_of how x.now) × RelationLine (sheet_of how x.now) k }
     ensures value { result ≡ goes_on (sheet_of how x.now) k }
 {
-    if k == 0 {
-        return false;
-    }
     let z = Keyed {
         how,
         by: By::Records,
     };
-    if !keys::takes(z, x, k - 1) {
-        return false;
-    }
-    keys::same(z, x, k - 1, k)
+    k != 0 && keys::takes(z, x, k - 1) && keys::same(z, x, k - 1, k)
 }
 
 // The first line of relation line k's record, where that of the line before is `start`, and `on` says whether the record goes on.
 pub fn starts(on: bool, start: usize, k: usize) -> usize
     ensures value { result ≡ pick on start k }
 {
-    if on {
-        return start;
-    }
-    k
+    if on { start } else { k }
 }
 
 // Relation lines k and j have one record increment and instrument.
@@ -50,10 +41,8 @@ fn same_set(how: Reading, x: &[u8], k: usize, j: usize) -> bool
 {
     let l = lines::own_of(how, x, k);
     let m = lines::own_of(how, x, j);
-    if figures::index(&l, 12) != figures::index(&m, 12) {
-        return false;
-    }
-    figures::index(&l, 13) == figures::index(&m, 13)
+    figures::index(&l, 12) == figures::index(&m, 12)
+        && figures::index(&l, 13) == figures::index(&m, 13)
 }
 
 // Relation lines k and j are of one shot, record increment and instrument.
@@ -61,18 +50,7 @@ fn same_shot(how: Reading, x: &[u8], k: usize, j: usize) -> bool
     requires { Known 3 (sheet_of how x.now) × (RelationLine (sheet_of how x.now) k × RelationLine (sheet_of how x.now) j) }
     ensures value { result ≡ same_shot (relation_at (sheet_of how x.now) k) (relation_at (sheet_of how x.now) j) }
 {
-    let y = keys::shot_key(how, x, k);
-    let w = keys::shot_key(how, x, j);
-    if y.first != w.first {
-        return false;
-    }
-    if y.second != w.second {
-        return false;
-    }
-    if y.third != w.third {
-        return false;
-    }
-    same_set(how, x, k, j)
+    keys::shot_key(how, x, k) == keys::shot_key(how, x, j) && same_set(how, x, k, j)
 }
 
 // 17 of relation line k, whose record goes on.
@@ -83,7 +61,7 @@ fn rises(how: Reading, x: &[u8], k: usize) -> Verdict
     let l = lines::own_of(how, x, k);
     let m = lines::own_of(how, x, k - 1);
     if figures::number(&m, 43, 46) < figures::number(&l, 39, 42) {
-        return Verdict::Fine;
+        return Ok(());
     }
     lines::at_line(17, 3, k, 39)
 }
@@ -93,13 +71,10 @@ pub fn record_fits(how: Reading, x: &[u8], k: usize, apart: usize, on: bool) -> 
     requires { Known 3 (sheet_of how x.now) × (RelationLine (sheet_of how x.now) k × Standing (sheet_of how x.now) k apart on) }
     ensures verdict { paper result ≡ run (rule16 (sheet_of how x.now) k before rule17 (sheet_of how x.now) k) }
 {
-    if !on {
-        if k == apart {
-            return lines::at_line(16, 3, k, 2);
-        }
-        return Verdict::Fine;
+    if !on && k != apart {
+        return Ok(());
     }
-    if same_shot(how, x, k, k - 1) {
+    if on && same_shot(how, x, k, k - 1) {
         return rises(how, x, k);
     }
     lines::at_line(16, 3, k, 2)
