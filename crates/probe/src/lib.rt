@@ -19,16 +19,12 @@ use records::{point, relation};
 use values::places;
 
 // Puts a part into the first places of out, where it has room.
+#[tactic(auto, unfolding(crate::specs::Host::over, rules::specs::Places::pick))]
 fn put(p: &[u8], out: &mut [u8])
     ensures written { out.new ≡ over p.now out.old }
 {
-    if out.len() < p.len() {
-        return;
-    }
-    let mut i = 0;
-    while i < p.len() {
-        out[i] = p[i];
-        i += 1;
+    if p.len() <= out.len() {
+        out[..p.len()].copy_from_slice(p);
     }
 }
 
@@ -51,13 +47,17 @@ pub extern "C" fn probe_show<'a>(
 }
 
 // The number of a verdict's refusal; 0 where it is fine.
+#[tactic(auto, unfolding(crate::specs::Host::told, rules::specs::Hosts::packed))]
 fn told(v: Verdict) -> u64
     ensures value { result ≡ told_of (paper v) }
 {
     match v {
-        Verdict::Fine => 0,
-        Verdict::Refused(n, f, l, c) => {
-            n as u64 * 1099511627776 + f as u64 * 4294967296 + l as u64 * 256 + c as u64
+        Ok(()) => 0,
+        Err(e) => {
+            u64::from(e.number) * 1099511627776
+                + u64::from(e.file) * 4294967296
+                + u64::from(e.line) * 256
+                + u64::from(e.column)
         }
     }
 }
@@ -71,6 +71,7 @@ pub extern "C" fn probe_line(line: &[u8; 80], i: u8) -> u64
 }
 
 // What file i is refused for: 1 to 6.
+#[tactic(auto, unfolding(lines::specs::Reading::sheet_of))]
 #[unsafe(no_mangle)]
 pub extern "C" fn probe_form(f: &[u8], i: u8) -> u64
     ensures verdict { result ≡ told_of (run (form_of i (file f.now))) }
@@ -79,6 +80,7 @@ pub extern "C" fn probe_form(f: &[u8], i: u8) -> u64
 }
 
 // The sixteen numbers of a point line.
+#[tactic(auto, using(values::proofs::Carried::point_places_lem))]
 #[unsafe(no_mangle)]
 pub extern "C" fn probe_point(line: &[u8; 80], numbers: &mut [u64; 16])
     ensures written { numbers.new ≡ point_places (point_values sps93 line.now) }
@@ -87,6 +89,7 @@ pub extern "C" fn probe_point(line: &[u8; 80], numbers: &mut [u64; 16])
 }
 
 // Those of a relation line.
+#[tactic(auto, using(values::proofs::Carried::relation_places_lem))]
 #[unsafe(no_mangle)]
 pub extern "C" fn probe_relation(line: &[u8; 80], numbers: &mut [u64; 16])
     ensures written { numbers.new ≡ relation_places (relation_values sps93 line.now) }
