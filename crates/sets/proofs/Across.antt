@@ -1,12 +1,12 @@
--- The rules across the files, part by part: what each part asks for, and the verdict of each as far as the code comes.
+-- The rules across the files, part by part: what each part asks for.
 --   small_keys, few_rows         = lines of a known file can be put in order, and are few
 --   whole_arrays                 = the arrays of the call have a place for each line
 --   in_order                     = 10 to 12 are met
 --   shots_in_order               = so are 13 and 14, where the pass over X found nothing
---   points_stop, relations_stop, shots_last = the verdict of the first part that refuses, or of the last
+--   whole                        = the three parts are the rules across the files
 use Prim.Native.Nat.{ℕ, ◌≤◌}
 use native.Mathlib.Omega.{arith}
-use mathlib.Core.Path.{◌≡◌, sym, ◌∙◌}
+use mathlib.Core.Path.{◌≡◌, sym}
 use mathlib.Core.List.{List}
 use lib.ListN.{length, take, replicate, length-replicate}
 use lib.Seq.{length-take-le}
@@ -15,12 +15,8 @@ use Rattle.rules.specs.Sheet.{Sheet, most_lines}
 use Rattle.rules.specs.Order.{rule10}
 use Rattle.rules.specs.Check.{relation_fits}
 use Rattle.rules.proofs.Breach.{run_met}
-use Rattle.rules.proofs.Steps.{before_met}
-use Rattle.lines.specs.declared.Verdict.{Verdict}
-use Rattle.lines.specs.declared.Verdict.TheVariants.{Fine, Refused}
-use Rattle.lines.specs.Paper.{paper}
 use Rattle.form.specs.Known.{Known}
-use Rattle.form.proofs.Laws.{is_met, stops_at, grouped}
+use Rattle.form.proofs.Laws.{grouped}
 use Rattle.keys.specs.Held.{shot_fits}
 use Rattle.keys.specs.Keyed.{key_at}
 use Rattle.keys.specs.declared.By.{By}
@@ -65,22 +61,6 @@ module _ (r s x : Sheet) where
             );
       }
 
-  -- the verdicts
-  module _ (v : Verdict) (p : paper v ≡ run (points_of r s)) where
-    whole : run (points_of r s before all_relate r s x before all_named s x) ≡ run (across r s x)
-    unfolding across
-    whole = grouped (up_to r.count (rule10 r)) (up_to s.count (shot_fits s)) (all_relate r s x before all_named s x)
-
-    pub points_stop : {a b c d : ℕ} → v ≡ Refused a b c d → paper v ≡ run (across r s x)
-    points_stop z = stops_at v (points_of r s) p z (all_relate r s x before all_named s x) ∙ whole
-
-    module _ (y : v ≡ Fine) (u : Verdict) (q : paper u ≡ run (all_relate r s x)) where
-      pub relations_stop : {a b c d : ℕ} → u ≡ Refused a b c d → paper u ≡ run (across r s x)
-      relations_stop z =
-          stops_at u (all_relate r s x) q z (all_named s x)
-          ∙ before_met (points_of r s) (all_relate r s x before all_named s x) (is_met v (points_of r s) p y) ∙ whole
-
-      pub shots_last : u ≡ Fine → (w : Verdict) → paper w ≡ run (all_named s x) → paper w ≡ run (across r s x)
-      shots_last z w g =
-          g ∙ before_met (all_relate r s x) (all_named s x) (is_met u (all_relate r s x) q z)
-          ∙ before_met (points_of r s) (all_relate r s x before all_named s x) (is_met v (points_of r s) p y) ∙ whole
+  pub whole : run (points_of r s before all_relate r s x before all_named s x) ≡ run (across r s x)
+  unfolding across
+  whole = grouped (up_to r.count (rule10 r)) (up_to s.count (shot_fits s)) (all_relate r s x before all_named s x)

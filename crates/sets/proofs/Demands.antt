@@ -33,16 +33,16 @@ use Rattle.rules.proofs.Hosts.{Sized, cross_sized}
 use Rattle.rules.proofs.OneFile.{parts_formed, first_part, second_part, third_part}
 use Rattle.lines.specs.Reading.{medium_of, sheet_of}
 use Rattle.lines.specs.declared.Reading.{Reading}
-use Rattle.lines.specs.declared.Verdict.{Verdict as FormVerdict}
-use Rattle.lines.specs.declared.Verdict.TheVariants.{Fine}
+use Rattle.std.specs.Prelude.{Ok, Err}
+use Rattle.lines.specs.declared.Refusal.{Refusal as FormRefusal}
+use Rattle.lines.specs.Paper.{Verdict as FormVerdict, told}
 use Rattle.lines.proofs.Sheets.{lawful}
 use Rattle.form.specs.Paper.{answered}
 use Rattle.form.proofs.One.{answered_one}
 use Rattle.form.specs.contracts.form as form
 use Rattle.form.proofs.form.Reads as form_reads
-use Rattle.sets.specs.declared.Answer.{Answer}
-use Rattle.sets.specs.declared.Answer.TheVariants.{Accepted, Refused}
-use Rattle.sets.specs.Paper.{paper}
+use Rattle.sets.specs.declared.Counts.{Counts}
+use Rattle.sets.specs.Paper.{Answer, paper}
 use Rattle.sets.specs.Judged.{Judged}
 use Rattle.sets.specs.Parts.{Parts}
 use Rattle.sets.proofs.One.{answer_one, cross_one}
@@ -68,41 +68,37 @@ module _ (r s x : Sheet) where
   when_broken w =
       Iff.trans (refusal_is (verdict r s x) (points r) (points s) (relations x) (all_traces x) (dead_traces r x) w) (verdict_refuses r s x w)
 
+  abbrev counted : Counts
+  counted = record { receivers = points r; shots = points s; relations = relations x; traces = all_traces x; dead_traces = dead_traces r x }
+
   pub judged : (v : Answer) → paper v ≡ cross_of r s x → Judged r s x v
   judged v e =
       record {
         accepted_when = (
-          λ w. ((accepted_is r s x w.0 w.1 w.2 w.3 w.4).0 (sym e ∙ ap paper w.5)).0,
-          λ m. (
-            points r,
-            points s,
-            relations x,
-            all_traces x,
-            dead_traces r x,
-            answer_one v (Accepted (points r) (points s) (relations x) (all_traces x) (dead_traces r x)) (e ∙ when_met m),
-          ),
+          λ w. let c = w.0 in ((accepted_is r s x c.receivers c.shots c.relations c.traces c.dead_traces).0 (sym e ∙ ap paper w.1)).0,
+          λ m. (counted, answer_one v (Ok counted) (e ∙ when_met m)),
         );
-        counts_of = λ n m k t d y. ((accepted_is r s x n m k t d).0 (sym e ∙ ap paper y)).1;
+        counts_of = λ c y. ((accepted_is r s x c.receivers c.shots c.relations c.traces c.dead_traces).0 (sym e ∙ ap paper y)).1;
         refused_when = λ n f l c.
             let b = when_broken (№ n f l c) in
-            (λ y. b.0 (sym e ∙ ap paper y), λ y. answer_one v (Refused n f l c) (e ∙ b.1 y));
+            (λ y. b.0 (sym e ∙ ap paper y), λ y. answer_one v (Err (record { number = n; file = f; line = l; column = c })) (e ∙ b.1 y));
       }
 
   module _ (u v w : FormVerdict) (a : Answer) (eu : answered u ≡ file_form 82 r) (ev : answered v ≡ file_form 83 s) (ew : answered w ≡ file_form 88 x)
       (ea : paper a ≡ cross_of r s x) where
-    refused_as : (n i l c : ℕ) → cross_of r s x ≡ refusal (№ n i l c) → a ≡ Refused n i l c
-    refused_as n i l c y = answer_one a (Refused n i l c) (ea ∙ y)
+    refused_as : (d : FormRefusal) → cross_of r s x ≡ refusal (told d) → a ≡ Err d
+    refused_as d y = answer_one a (Err d) (ea ∙ y)
 
     pub parts : Parts u v w a
     parts =
         record {
-          all_formed = λ n m k t d y.
-              let f = parts_formed r s x n m k t d (sym ea ∙ ap paper y) in
-              (answered_one u Fine (eu ∙ f.0), (answered_one v Fine (ev ∙ f.1.0), answered_one w Fine (ew ∙ f.1.1)));
-          as_r = λ n i l c y. refused_as n i l c (first_part r s x (№ n i l c) (sym eu ∙ ap answered y));
-          as_s = λ n i l c p y. refused_as n i l c (second_part r s x (sym eu ∙ ap answered p) (№ n i l c) (sym ev ∙ ap answered y));
-          as_x = λ n i l c p q y.
-              refused_as n i l c (third_part r s x (sym eu ∙ ap answered p) (sym ev ∙ ap answered q) (№ n i l c) (sym ew ∙ ap answered y));
+          all_formed = λ c y.
+              let f = parts_formed r s x c.receivers c.shots c.relations c.traces c.dead_traces (sym ea ∙ ap paper y) in
+              (answered_one u (Ok tt) (eu ∙ f.0), (answered_one v (Ok tt) (ev ∙ f.1.0), answered_one w (Ok tt) (ew ∙ f.1.1)));
+          as_r = λ d y. refused_as d (first_part r s x (told d) (sym eu ∙ ap answered y));
+          as_s = λ d p y. refused_as d (second_part r s x (sym eu ∙ ap answered p) (told d) (sym ev ∙ ap answered y));
+          as_x = λ d p q y.
+              refused_as d (third_part r s x (sym eu ∙ ap answered p) (sym ev ∙ ap answered q) (told d) (sym ew ∙ ap answered y));
         }
 
 -- 1: "The checker takes three byte strings of every length and content and ends with a verdict, whatever the caller did or did not look at."
@@ -115,9 +111,9 @@ one_answer = cross_one
 -- "A refusal is one number, file, line and column from the published order of checks, and writes nothing into lent memory." The call is lent
 -- files alone, which their types keep as they are.
 pub from_the_list : (κs : Lfts 3) (a : ArgsD cross.signature κs) (v : ResD cross.signature κs) (w : AtExit cross.ended κs)
-    → cross_reads.Post κs a v w → (n f l c : ℕ) → v ≡ Refused n f l c → Listed (№ n f l c)
+    → cross_reads.Post κs a v w → (d : FormRefusal) → v ≡ Err d → Listed (told d)
 unfolding sheet_of
-from_the_list κs a v w p n f l c y =
+from_the_list κs a v w p d y =
     subst Sized (sym p ∙ ap paper y) (cross_sized (medium_of a.0) (lawful a.0) a.1.0.now a.1.1.0.now a.1.1.1.0.now)
 
 -- 2: "A set is accepted exactly when it meets the SPS text of 1993 as narrowed in document 01; otherwise the refusal is the first breach in

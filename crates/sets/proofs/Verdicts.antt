@@ -4,7 +4,7 @@
 --   asked_not, own_refusal, asked_fine   = what is answered where the question is out of range, the set is refused, or neither
 use Prim.Native.Nat.{ℕ}
 use native.Mathlib.Omega.{arith}
-use mathlib.Core.Path.{◌≡◌, refl, sym, ap, ◌∙◌}
+use mathlib.Core.Path.{◌≡◌, refl}
 use mathlib.Core.Bool.{Bool, true, false}
 use mathlib.Core.List.{List}
 use Rattle.rules.specs.Plan.{Refusal, Verdict, fine, refused, №, ◌before◌, run}
@@ -14,9 +14,7 @@ use Rattle.rules.specs.Questions.{rule20}
 use Rattle.rules.proofs.Steps.{need_met, need_broken, before_met, before_broken}
 use Rattle.lines.specs.Reading.{sheet_of}
 use Rattle.lines.specs.declared.Reading.{Reading}
-use Rattle.sets.specs.declared.Answer.{Answer}
-use Rattle.sets.specs.declared.Answer.TheVariants.{Accepted, Refused}
-use Rattle.sets.specs.Paper.{paper, cross_on}
+use Rattle.sets.specs.Paper.{cross_on}
 
 told_refused : (v : Verdict) (a b c d y : ℕ) (w : Refusal) → refusal w ≡ answer v (accepted a b c d y) → v ≡ refused w
 unfolding answer
@@ -37,21 +35,21 @@ last_two r s x n m k t d = go (verdict r s x)
     go fine e = ((cc), (cc))
     go (refused w) e = absurd (let z : ◌≡◌ {A = ℕ} 0 1 = cc in omega arith)
 
-module _ (r s x : Sheet) (v : Answer) (e : paper v ≡ cross r s x) where
-  pub accepted_fine : (n m k t d : ℕ) → v ≡ Accepted n m k t d → verdict r s x ≡ fine
+module _ (r s x : Sheet) where
+  pub accepted_fine : (n m k t d : ℕ) → accepted n m k t d ≡ cross r s x → verdict r s x ≡ fine
   unfolding cross
-  accepted_fine n m k t d y = told_accepted _ n m k t d _ _ _ _ _ (ap paper (sym y) ∙ e)
+  accepted_fine n m k t d e = told_accepted _ n m k t d _ _ _ _ _ e
 
-  pub refused_by : (n f l c : ℕ) → v ≡ Refused n f l c → verdict r s x ≡ refused (№ n f l c)
+  pub refused_by : (w : Refusal) → refusal w ≡ cross r s x → verdict r s x ≡ refused w
   unfolding cross
-  refused_by n f l c y = told_refused _ _ _ _ _ _ (№ n f l c) (ap paper (sym y) ∙ e)
+  refused_by w e = told_refused _ _ _ _ _ _ w e
 
-module _ (how : Reading) (r s x : List ℕ) (v : Answer) (e : paper v ≡ cross_on how r s x) where
-  pub set_accepted : (n m k t d : ℕ) → v ≡ Accepted n m k t d → verdict (sheet_of how r) (sheet_of how s) (sheet_of how x) ≡ fine
-  set_accepted = accepted_fine _ _ _ v e
+module _ (how : Reading) (r s x : List ℕ) where
+  pub set_accepted : (n m k t d : ℕ) → accepted n m k t d ≡ cross_on how r s x → verdict (sheet_of how r) (sheet_of how s) (sheet_of how x) ≡ fine
+  set_accepted = accepted_fine _ _ _
 
-  pub set_refused : (n f l c : ℕ) → v ≡ Refused n f l c → verdict (sheet_of how r) (sheet_of how s) (sheet_of how x) ≡ refused (№ n f l c)
-  set_refused = refused_by _ _ _ v e
+  pub set_refused : (w : Refusal) → refusal w ≡ cross_on how r s x → verdict (sheet_of how r) (sheet_of how s) (sheet_of how x) ≡ refused w
+  set_refused = refused_by _ _ _
 
 module _ (r s x : Sheet) (A : PaperAnswer) (q : Bool) where
   abbrev Says : PaperAnswer → Type 0

@@ -1,5 +1,5 @@
 -- The code's answer as the paper's: its number and values for each case; and the parts of the order that the code looks at one by one.
---   paper a            = the answer of the paper
+--   Answer             = the counts, or a refusal; paper a = the answer of the paper
 --   cross_on how r s x  = the answer to the cross-check of three files that are read in one way
 --   forms_of r s x      = the form of R, then S, then X
 --   points_of r s       = 10 over R, then 11 and 12 over S
@@ -10,8 +10,8 @@
 --   Headed r s x       = and their headers and code tables are met; Met r s x = and so are all rules
 --   Ordered r s x      = the files are well formed, and 10, 11 and 12 are met
 --   Arrays o p         = both arrays have a place for each line
-use Rattle.std.specs.Prelude.{ℕ, ◌≤◌, List, length, ◌≡◌}
-use Rattle.rules.specs.Plan.{№, Plan, fine, file_r, file_s, file_x, ◌before◌, up_to, run}
+use Rattle.std.specs.Prelude.{ℕ, ◌≤◌, List, length, ◌≡◌, Result, Ok, Err}
+use Rattle.rules.specs.Plan.{Plan, fine, file_r, file_s, file_x, ◌before◌, up_to, run}
 use Rattle.rules.specs.Sheet.{Sheet, most_lines}
 use Rattle.rules.specs.Form.{form}
 use Rattle.rules.specs.Codes.{codes_fit}
@@ -19,17 +19,21 @@ use Rattle.rules.specs.Order.{rule10}
 use Rattle.rules.specs.Check.{Answer as PaperAnswer, accepted, refusal, points, relations, all_traces, dead_traces, verdict, answer, cross}
 use Rattle.lines.specs.Reading.{sheet_of}
 use Rattle.lines.specs.declared.Reading.{Reading}
+use Rattle.lines.specs.declared.Refusal.{Refusal}
+use Rattle.lines.specs.Paper.{told}
 use Rattle.form.specs.Known.{Known}
 use Rattle.headers.specs.Steps.{headers_fit}
 use Rattle.keys.specs.Held.{shot_fits, KnownReceivers, KnownShots}
 use Rattle.shots.specs.Places.{all_named}
 use Rattle.relations.specs.Walk.{all_relate}
-use Rattle.sets.specs.declared.Answer.{Answer}
-use Rattle.sets.specs.declared.Answer.TheVariants.{Accepted, Refused}
+use Rattle.sets.specs.declared.Counts.{Counts}
+
+abbrev pub Answer : Type 0
+Answer = Result Counts Refusal
 
 abbrev pub paper : Answer → PaperAnswer
-paper (Accepted a b c d e) = accepted a b c d e
-paper (Refused n f l c) = refusal (№ n f l c)
+paper (Ok c) = accepted c.receivers c.shots c.relations c.traces c.dead_traces
+paper (Err e) = refusal (told e)
 
 abbrev pub cross_on : Reading → List ℕ → List ℕ → List ℕ → PaperAnswer
 cross_on how r s x = cross (sheet_of how r) (sheet_of how s) (sheet_of how x)

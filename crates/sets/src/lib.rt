@@ -1,7 +1,7 @@
 #![tactic(auto)]
 // The cross-check: the form of R, S and X, the header rules, the code tables, then the rules across the files, and the counts of an accepted set.
 // Two arrays of line numbers are its own, 80 KB of its stack; nothing is allocated.
-ghost use Rattle.std.specs.Prelude.{◌≡◌};
+ghost use Rattle.std.specs.Prelude.{◌≡◌, Ok};
 ghost use Rattle.rules.specs.Plan.{run};
 ghost use Rattle.lines.specs.Paper.{paper as verdict_of};
 ghost use Rattle.lines.specs.Reading.{sheet_of};
@@ -11,30 +11,27 @@ ghost use Rattle.sets.specs.Paper.{paper, cross_on, forms_of, points_of, across 
 ghost use Rattle.sets.specs.Paper.{KnownSet, Headed, Met, Ordered, Arrays};
 
 use keys::{By, Keyed};
-use lines::{Reading, Verdict};
+use lines::{Reading, Refusal, Verdict};
 
-mod counts;
+mod counting;
 
-// What the cross-check answers: accepted, with receivers, shots, relation lines, traces and dead traces; or refused, with number, file (R 1, S 2,
-// X 3), line and column.
-#[derive(Clone, Copy)]
-pub enum Answer {
-    Accepted(u64, u64, u64, u64, u64),
-    Refused(u8, u8, u32, u8),
+// The counts of an accepted set: receivers, shots, relation lines, traces, and how many of these are dead.
+#[derive(Clone, Copy, Debug, PartialEq, Eq)]
+pub struct Counts {
+    pub receivers: u64,
+    pub shots: u64,
+    pub relations: u64,
+    pub traces: u64,
+    pub dead_traces: u64,
 }
 
 // The form of R, then S, then X.
+#[tactic(auto, using(rules::proofs::Plans::plans))]
 fn forms(how: Reading, r: &[u8], s: &[u8], x: &[u8]) -> Verdict
     ensures verdict { verdict_of result ≡ run (forms_of (sheet_of how r.now) (sheet_of how s.now) (sheet_of how x.now)) }
 {
-    let v = form::file_fits(how, r, 1);
-    if let Verdict::Refused(_, _, _, _) = v {
-        return v;
-    }
-    let u = form::file_fits(how, s, 2);
-    if let Verdict::Refused(_, _, _, _) = u {
-        return u;
-    }
+    form::file_fits(how, r, 1)?;
+    form::file_fits(how, s, 2)?;
     form::file_fits(how, x, 3)
 }
 
@@ -72,14 +69,12 @@ fn relations_across(
 }
 
 // 10 over R, then 11 and 12 over S.
+#[tactic(auto, using(rules::proofs::Plans::plans))]
 fn points_across(how: Reading, r: &[u8], s: &[u8], o: &mut [u32], p: &mut [u32]) -> Verdict
     requires { (Known 1 (sheet_of how r.now) × Known 2 (sheet_of how s.now)) × Arrays o.old p.old }
     ensures verdict { verdict_of result ≡ run (points_of (sheet_of how r.now) (sheet_of how s.now)) }
 {
-    let v = points::receivers::receivers_fit(how, r);
-    if let Verdict::Refused(_, _, _, _) = v {
-        return v;
-    }
+    points::receivers::receivers_fit(how, r)?;
     let again = order::first_repeat(
         Keyed {
             how,
@@ -104,59 +99,47 @@ fn verdict_across(
     requires { KnownSet (sheet_of how r.now) (sheet_of how s.now) (sheet_of how x.now) × Arrays o.old p.old }
     ensures verdict { verdict_of result ≡ run (across_of (sheet_of how r.now) (sheet_of how s.now) (sheet_of how x.now)) }
 {
-    let v = points_across(how, r, s, o, p);
-    if let Verdict::Refused(_, _, _, _) = v {
-        return v;
-    }
-    let u = relations_across(how, r, s, x, o, p);
-    if let Verdict::Refused(_, _, _, _) = u {
-        return u;
-    }
+    points_across(how, r, s, o, p)?;
+    relations_across(how, r, s, x, o, p)?;
     shots::shots_named(how, s, x)
 }
 
 // The counts of a set that meets the rules; the arrays are scratch.
-fn counted(how: Reading, r: &[u8], s: &[u8], x: &[u8], o: &mut [u32], p: &mut [u32]) -> Answer
+fn counted(how: Reading, r: &[u8], s: &[u8], x: &[u8], o: &mut [u32], p: &mut [u32]) -> Counts
     requires { Met (sheet_of how r.now) (sheet_of how s.now) (sheet_of how x.now) × Arrays o.old p.old }
-    ensures answer { paper result ≡ counts_of (sheet_of how r.now) (sheet_of how s.now) (sheet_of how x.now) }
+    ensures counts { paper (Ok result) ≡ counts_of (sheet_of how r.now) (sheet_of how s.now) (sheet_of how x.now) }
 {
-    let receivers = counts::points(how, r);
-    let shots = counts::points(how, s);
-    let lines = counts::relations(how, x);
-    let traces = counts::traces(how, x);
-    let dead = dead::dead_traces(how, r, x, o, p);
-    Answer::Accepted(receivers, shots, lines, traces, dead)
+    let receivers = counting::points(how, r);
+    let shots = counting::points(how, s);
+    let relations = counting::relations(how, x);
+    let traces = counting::traces(how, x);
+    let dead_traces = dead::dead_traces(how, r, x, o, p);
+    Counts {
+        receivers,
+        shots,
+        relations,
+        traces,
+        dead_traces,
+    }
 }
 
 // The answer across the files.
-fn answer_across(how: Reading, r: &[u8], s: &[u8], x: &[u8]) -> Answer
+fn answer_across(how: Reading, r: &[u8], s: &[u8], x: &[u8]) -> Result<Counts, Refusal>
     requires { Headed (sheet_of how r.now) (sheet_of how s.now) (sheet_of how x.now) }
     ensures answer { paper result ≡ answered_across (sheet_of how r.now) (sheet_of how s.now) (sheet_of how x.now) }
 {
     let mut o = [0u32; lines::MOST_LINES];
     let mut p = [0u32; lines::MOST_LINES];
-    let v = verdict_across(how, r, s, x, &mut o, &mut p);
-    if let Verdict::Refused(n, f, l, c) = v {
-        return Answer::Refused(n, f, l, c);
-    }
-    counted(how, r, s, x, &mut o, &mut p)
+    verdict_across(how, r, s, x, &mut o, &mut p)?;
+    Ok(counted(how, r, s, x, &mut o, &mut p))
 }
 
 // The cross-check of three files of any length and content, read in one way. It looks at the form of each itself.
-pub fn cross(how: Reading, r: &[u8], s: &[u8], x: &[u8]) -> Answer
+pub fn cross(how: Reading, r: &[u8], s: &[u8], x: &[u8]) -> Result<Counts, Refusal>
     ensures answer { paper result ≡ cross_on how r.now s.now x.now }
 {
-    let v = forms(how, r, s, x);
-    if let Verdict::Refused(n, i, k, c) = v {
-        return Answer::Refused(n, i, k, c);
-    }
-    let u = headers::headers_fit(how, r, s, x);
-    if let Verdict::Refused(n, i, k, c) = u {
-        return Answer::Refused(n, i, k, c);
-    }
-    let w = codes::codes_fit(how, r, s, x);
-    if let Verdict::Refused(n, i, k, c) = w {
-        return Answer::Refused(n, i, k, c);
-    }
+    forms(how, r, s, x)?;
+    headers::headers_fit(how, r, s, x)?;
+    codes::codes_fit(how, r, s, x)?;
     answer_across(how, r, s, x)
 }

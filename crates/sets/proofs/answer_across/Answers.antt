@@ -1,30 +1,29 @@
 -- What `sets::answer_across` leaves to show.
-use mathlib.Core.Path.{◌∙◌}
-use Rattle.form.proofs.Laws.{is_broken, is_met}
+use Rattle.std.proofs.Common.{◌∙◌, arith}
+use Rattle.std.proofs.lemmas.Result.{err_from_is_err_and}
 use Rattle.sets.proofs.Across.{whole_arrays}
-use native.Mathlib.Omega.{arith}
 use Rattle.sets.proofs.Answers.{accepts, refuses, all_met}
 use Rattle.sets.proofs.answer_across.Goals as goal
 
-pub verdict_across-v-requires : goal.verdict_across-v-requires
-verdict_across-v-requires c = (c.requires.known, whole_arrays)
+pub verdict_across-requires : goal.verdict_across-requires
+verdict_across-requires c = (c.requires.known, whole_arrays)
 
-pub returns-in-Refused : goal.returns-in-Refused
-returns-in-Refused c = record { answer = refuses _ _ _ (is_broken _ _ c.verdict_across-v.ensures.verdict c.in-Refused.is) }
+pub returns-in_err-verdict_across : goal.returns-in_err-verdict_across
+returns-in_err-verdict_across c = record {
+  answer = let p = err_from_is_err_and c.from_residual.result c.from_residual.ensures.1 in
+      rw (p.1, p.2) (refuses _ _ _ c.in_err-verdict_across.ensures.verdict);
+}
 
 pub counted-requires : goal.counted-requires
 counted-requires c = let p = c.requires in
-    let v = c.verdict_across-v in (
+    let v = c.verdict_across in (
       record {
         known = p.known;
-        fine = all_met _ _ _ p.forms p.heads p.codes (is_met _ _ v.ensures.verdict c.in_default.is);
+        fine = all_met _ _ _ p.forms p.heads p.codes c.in_ok-verdict_across.ensures.verdict;
         alike = p.alike;
       },
       (omega (arith, whole_arrays.0, v.auto), omega (arith, whole_arrays.1, v.auto)),
     )
 
 pub returns : goal.returns
-returns c = record {
-  answer = let p_judged = c.verdict_across-v.ensures.verdict in
-      c.counted.ensures.answer ∙ accepts _ _ (is_met _ _ p_judged c.in_default.is);
-}
+returns c = record { answer = c.counted.ensures.counts ∙ accepts _ _ c.in_ok-verdict_across.ensures.verdict }

@@ -1,12 +1,8 @@
 -- What `sets::points_across` leaves to show.
+use Rattle.std.proofs.Common.{arith}
 use Rattle.keys.specs.declared.By.TheVariants.{Points}
-use Rattle.form.proofs.Laws.{goes_on_lem, stops_at}
 use Rattle.sets.proofs.Across.{small_keys}
-use native.Mathlib.Omega.{arith}
 use Rattle.sets.proofs.points_across.Goals as goal
-
-pub returns-in-Refused : goal.returns-in-Refused
-returns-in-Refused c = record { verdict = stops_at _ _ c.receivers_fit-v.ensures.verdict c.in-Refused.is _ }
 
 pub first_repeat-again-requires : goal.first_repeat-again-requires
 first_repeat-again-requires c = let p = c.requires in
@@ -18,6 +14,3 @@ shots_fit-requires c = (
   c.requires.0.1,
   (c.first_repeat-again.ensures.value, omega arith),
 )
-
-pub returns : goal.returns
-returns c = record { verdict = goes_on_lem _ _ c.receivers_fit-v.ensures.verdict c.in_default.is _ c.shots_fit.result c.shots_fit.ensures.verdict }

@@ -1,33 +1,35 @@
 -- What `sets::verdict_across` leaves to show.
-use Rattle.form.proofs.Laws.{is_met}
-use Rattle.sets.proofs.Across.{in_order, points_stop, relations_stop, shots_in_order, shots_last}
-use native.Mathlib.Omega.{arith}
+use Rattle.std.proofs.Common.{◌∙◌, arith}
+use Rattle.std.proofs.lemmas.Result.{err_from_is_err_and}
+use Rattle.rules.proofs.Steps.{before_met, before_broken}
+use Rattle.sets.proofs.Across.{in_order, shots_in_order, whole}
 use Rattle.sets.proofs.verdict_across.Goals as goal
 
-pub returns-in-Refused : goal.returns-in-Refused
-returns-in-Refused c = record { verdict = points_stop _ _ _ _ c.points_across-v.ensures.verdict c.in-Refused.is }
+pub returns-in_err-points_across : goal.returns-in_err-points_across
+returns-in_err-points_across c = record {
+  verdict = let p = err_from_is_err_and c.from_residual.result c.from_residual.ensures.1 in
+      rw (p.1, p.2) (before_broken _ _ _ c.in_err-points_across.ensures.verdict ∙ whole _ _ _);
+}
 
-pub relations_across-u-requires : goal.relations_across-u-requires
-relations_across-u-requires c = let p = c.requires in (
-  in_order _ _ _ p.0 (is_met _ _ c.points_across-v.ensures.verdict c.in_default.is),
+pub relations_across-requires : goal.relations_across-requires
+relations_across-requires c = let p = c.requires in (
+  in_order _ _ _ p.0 c.in_ok-points_across.ensures.verdict,
   (omega (arith, p.1.0), omega (arith, p.1.1)),
 )
 
-pub returns-in-Refused-u : goal.returns-in-Refused-u
-returns-in-Refused-u c = record {
-  verdict = relations_stop _ _ _ _ c.points_across-v.ensures.verdict
-      c.in_default.is _ c.relations_across-u.ensures.verdict
-      c.in-Refused-u.is;
+pub returns-in_err-relations_across : goal.returns-in_err-relations_across
+returns-in_err-relations_across c = record {
+  verdict = let p = err_from_is_err_and c.from_residual-in_err-relations_across.result c.from_residual-in_err-relations_across.ensures.1 in
+      rw (p.1, p.2)
+      (before_broken _ _ _ c.in_err-relations_across.ensures.verdict ∙ before_met _ _ c.in_ok-points_across.ensures.verdict ∙ whole _ _ _);
 }
 
 pub shots_named-requires : goal.shots_named-requires
-shots_named-requires c = let z = in_order _ _ _ c.requires.0
-    (is_met _ _ c.points_across-v.ensures.verdict c.in_default.is) in
-    shots_in_order _ _ _ z (is_met _ _ c.relations_across-u.ensures.verdict c.in_default-u.is)
+shots_named-requires c = let o = in_order _ _ _ c.requires.0 c.in_ok-points_across.ensures.verdict in
+    shots_in_order _ _ _ o c.in_ok-relations_across.ensures.verdict
 
 pub returns : goal.returns
 returns c = record {
-  verdict = shots_last _ _ _ _ c.points_across-v.ensures.verdict
-      c.in_default.is _ c.relations_across-u.ensures.verdict
-      c.in_default-u.is c.shots_named.result c.shots_named.ensures.verdict;
+  verdict = c.shots_named.ensures.verdict ∙ before_met _ _ c.in_ok-relations_across.ensures.verdict
+      ∙ before_met _ _ c.in_ok-points_across.ensures.verdict ∙ whole _ _ _;
 }

@@ -1,10 +1,10 @@
--- What `sets::counts::relations` leaves to show.
+-- What `sets::counting::relations` leaves to show.
 use mathlib.Core.Path.{◌∙◌}
 use Rattle.rules.specs.Check.{relations}
 use Rattle.lines.specs.Reading.{sheet_of}
 use Rattle.keys.proofs.Lines.{takes_record}
 use Rattle.rules.proofs.Dead.{count_alike}
-use Rattle.sets.proofs.counts.relations.Goals as goal
+use Rattle.sets.proofs.counting.relations.Goals as goal
 
 pub returns : goal.returns
 unfolding relations

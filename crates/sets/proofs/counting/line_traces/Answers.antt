@@ -1,9 +1,9 @@
--- What `sets::counts::line_traces` leaves to show.
+-- What `sets::counting::line_traces` leaves to show.
 use mathlib.Core.Path.{◌∙◌}
 use lib.Dec.{lit≤}
 use Rattle.keys.proofs.Read.{from_at, upto_at}
 use Rattle.sets.proofs.Tally.{no_traces, relation_line_lem, some_traces}
-use Rattle.sets.proofs.counts.line_traces.Goals as goal
+use Rattle.sets.proofs.counting.line_traces.Goals as goal
 
 pub returns-then-not-takes : goal.returns-then-not-takes
 returns-then-not-takes c = let p = c.requires in

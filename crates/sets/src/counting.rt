@@ -17,15 +17,10 @@ fn keyed(z: Keyed, f: &[u8]) -> u64
     requires { (sheet_of z.how f.now).count ≤ most_lines }
     ensures value { result ≡ count (sheet_of z.how f.now).count (takes_in z f.now) }
 {
-    let n = lines::line_count(z.how, f);
     let mut m: u64 = 0;
-    let mut k = 0;
-    while k < n {
+    for k in 0..lines::line_count(z.how, f) {
         if keys::takes(z, f, k) {
             m += 1;
-            k += 1;
-        } else {
-            k += 1;
         }
     }
     m
@@ -64,10 +59,7 @@ fn channels(from: u64, upto: u64) -> u64
     requires { upto < 4294967296 }
     ensures value { result ≡ upto + 1 - from }
 {
-    if upto < from {
-        return 0;
-    }
-    upto + 1 - from
+    (upto + 1).saturating_sub(from)
 }
 
 // The traces of line k, where it is a relation line; only its channel numbers are read.
@@ -92,12 +84,9 @@ pub fn traces(how: Reading, x: &[u8]) -> u64
     requires { Known 3 (sheet_of how x.now) }
     ensures value { result ≡ all_traces (sheet_of how x.now) }
 {
-    let n = lines::line_count(how, x);
     let mut m: u64 = 0;
-    let mut k = 0;
-    while k < n {
+    for k in 0..lines::line_count(how, x) {
         m += line_traces(how, x, k);
-        k += 1;
     }
     m
 }

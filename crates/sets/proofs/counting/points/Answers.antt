@@ -1,10 +1,10 @@
--- What `sets::counts::points` leaves to show.
+-- What `sets::counting::points` leaves to show.
 use mathlib.Core.Path.{◌∙◌}
 use Rattle.rules.specs.Check.{points}
 use Rattle.lines.specs.Reading.{sheet_of}
 use Rattle.keys.proofs.Lines.{takes_point}
 use Rattle.rules.proofs.Dead.{count_alike}
-use Rattle.sets.proofs.counts.points.Goals as goal
+use Rattle.sets.proofs.counting.points.Goals as goal
 
 pub returns : goal.returns
 unfolding points
