@@ -1,5 +1,7 @@
 -- Where the shot of a relation line stands, by a look from the place of the line before on: 13 and 14.
 --   from_first, from_none  = the first place from one on that passes
+--   found_in, none_in      = a line, or none, from a place
+--   in_found, in_none, some_in = and what it tells
 --   one_shot               = a line that holds the shot is its line, since shots stand once
 --   found_fine             = found from there on: 13 and 14 are met
 --   place_next             = and that is the place before the next line
@@ -10,8 +12,10 @@ use native.Mathlib.Omega.{arith}
 use mathlib.Core.Path.{◌≡◌, refl, sym, ap, ◌∙◌}
 use mathlib.Core.Logic.{⊎_elim}
 use mathlib.Core.Bool.{Bool, true, false, not, ◌&&◌, ◌||◌}
-use lib.Dec.{leb}
-use borrow.Author.Tests.{leb-true, le-leb, lt-leb}
+use lib.Dec.{leb, ltb}
+use borrow.Author.Tests.{leb-true, le-leb, lt-leb, lt-ltb, le-ltb, ltb-true}
+use Rattle.std.specs.Prelude.{Some, None}
+use Rattle.std.specs.Option.{is_some}
 use Rattle.rules.specs.Places.{pick, some, least, if_before}
 use Rattle.rules.specs.Plan.{fine, refused, №, up_to, run}
 use Rattle.rules.specs.Sheet.{Sheet}
@@ -27,7 +31,7 @@ use Rattle.rules.proofs.Order.{point_at_is, shots_are}
 use Rattle.rules.proofs.Refuses.{shot_line_lem}
 use Rattle.lines.proofs.Tests.{untrue}
 use Rattle.keys.specs.Held.{shot_fits, KnownShots}
-use Rattle.shots.specs.Places.{is_shot, onward, place_before, shot_found}
+use Rattle.shots.specs.Places.{is_shot, onward, line_in, place_before, shot_found}
 
 -- one place more that does not pass
 pub past_more : (from : ℕ) (p : ℕ → Bool) (j : ℕ) → ((i : ℕ) → from ≤ i → i < j → p i ≡ true → ⊥) → (p j ≡ true → ⊥) → (i : ℕ) → from ≤ i → i < j + 1
@@ -63,6 +67,36 @@ module _ (n from : ℕ) (p : ℕ → Bool) where
   from_gone i g h l t =
       let w = least_there n i on_from h ((and_is (leb from i) (p i)).1 (le-leb from i l, t)) in
       w.2 i g ((and_is (leb from i) (p i)).1 (le-leb from i l, t))
+
+-- a place as a line, or none
+module _ (n q : ℕ) where
+  pub found_in : (j : ℕ) → j ≡ q → j < n → Some j ≡ line_in n q
+  unfolding pick
+  found_in j e h = rw (← e, lt-ltb j n h) refl
+
+  pub none_in : n ≡ q → None ≡ line_in n q
+  unfolding pick
+  none_in e = rw (← e, le-ltb n n (omega arith)) refl
+
+  pub in_found : (j : ℕ) → Some j ≡ line_in n q → (j ≡ q) × (j < n)
+  unfolding pick
+  in_found j e = go (ltb q n) refl e
+    where
+      go : (t : Bool) → ltb q n ≡ t → Some j ≡ pick t (Some q) None → (j ≡ q) × (j < n)
+      go true y z = let i : j ≡ q = cc in (i, let l = ltb-true q n y in omega arith)
+      go false y z = absurd cc
+
+  pub in_none : None ≡ line_in n q → q < n → ⊥
+  unfolding pick
+  in_none e h = let z : None ≡ Some q = e ∙ (rw (lt-ltb q n h) refl) in absurd cc
+
+  pub some_in : is_some (line_in n q) ≡ ltb q n
+  unfolding pick
+  some_in = go (ltb q n)
+    where
+      go : (t : Bool) → is_some (pick t (Some q) None) ≡ t
+      go true = refl
+      go false = refl
 
 module _ (s x : Sheet) (ws : KnownShots s) where
   pub twelve : (i : ℕ) → i < s.count → Rule12 s i

@@ -2,6 +2,7 @@
 --   is_shot s x k j      = line j of S holds the shot of relation line k, and it is not killed
 --   names_key x y i      = the shot of line i of X has the key y
 --   onward s x k from   = the first line from `from` on that holds the shot of line k; the number of lines where none does
+--   line_in n j          = line j of n lines; none where there are no more
 --   place_before s x k   = the line of the shot of the line just before line k, where that is a relation line; else 0
 --   shot_found s x k     = 13, then 14
 --   shot_order s x k     = the same, where line k is a relation line
@@ -9,7 +10,7 @@
 --   past_of x y j        = the first line of X from j on whose shot has another key than y; the number of lines where none has
 --   all_named s x        = 15
 --   Ordered s x         = S and X are known, and 13 and 14 are met
-use Rattle.std.specs.Prelude.{ℕ, zero, suc, ◌≡◌, Bool, not, ◌&&◌, leb}
+use Rattle.std.specs.Prelude.{ℕ, zero, suc, ◌≡◌, Bool, not, ◌&&◌, leb, ltb, Option, Some, None}
 use Rattle.rules.specs.Places.{pick, least}
 use Rattle.rules.specs.Plan.{Plan, fine, ◌before◌, up_to, when, run}
 use Rattle.rules.specs.Sheet.{Sheet}
@@ -30,6 +31,9 @@ names_key x y i = same_key (shot_key x.layout (owned x i)) y
 
 unfoldable pub onward : Sheet → Sheet → ℕ → ℕ → ℕ
 onward s x k from = least s.count (λ j. leb from j && is_shot s x k j)
+
+abbrev pub line_in : ℕ → ℕ → Option ℕ
+line_in n j = pick (ltb j n) (Some j) None
 
 unfoldable pub place_before : Sheet → Sheet → ℕ → ℕ
 place_before s x zero = 0

@@ -1,24 +1,20 @@
 -- What `shots::missing` leaves to show.
-use Rattle.shots.proofs.Places.{gone, gone_before}
+use mathlib.Core.Path.{refl, sym, ap, ◌∙◌}
+use borrow.Author.Tests.{ltb-true, lt-ltb}
+use Rattle.rules.proofs.Tests.{clash}
+use Rattle.std.specs.Option.{is_some}
 use Rattle.shots.proofs.Held.{line_small, source_column}
-use mathlib.Core.Path.{◌∙◌}
-use native.Mathlib.Omega.{arith}
+use Rattle.shots.proofs.Places.{some_in, gone, gone_before}
 use Rattle.shots.proofs.missing.Goals as goal
-
-pub onward-requires : goal.onward-requires
-onward-requires c = let p = c.requires in ((p.shots.0, p.relations), p.line)
 
 pub at_line-requires : goal.at_line-requires
 at_line-requires c = let p = c.requires in line_small _ p.relations.few p.line.0
 
-pub returns-then-onward-line_count : goal.returns-then-onward-line_count
-returns-then-onward-line_count c = record {
-  verdict = let a = c.args in
-      let p = c.requires in
-      let n = c.line_count.ensures.value in
-      c.at_line.ensures.verdict
-      ∙ gone_before _ _ p.shots a.k 14 (source_column a.how a.x.now) p.gone _ c.onward.ensures.value
-      (let l = c.if-onward-line_count.true in omega arith);
+pub returns-then-is_some : goal.returns-then-is_some
+returns-then-is_some c = record {
+  verdict = let p = c.requires in
+      let e = sym (some_in _ _) ∙ ap is_some (sym c.onward.ensures.value) ∙ sym c.is_some.ensures ∙ c.if-is_some.true in
+      c.at_line.ensures.verdict ∙ gone_before _ _ p.shots _ 14 (source_column c.args.how _) p.gone _ refl (ltb-true _ _ e);
 }
 
 pub at_line-requires-2 : goal.at_line-requires-2
@@ -26,10 +22,8 @@ at_line-requires-2 c = let p = c.requires in line_small _ p.relations.few p.line
 
 pub returns : goal.returns
 returns c = record {
-  verdict = let a = c.args in
-      let p = c.requires in
-      let n = c.line_count.ensures.value in
+  verdict = let p = c.requires in
+      let e = sym (some_in _ _) ∙ ap is_some (sym c.onward.ensures.value) ∙ sym c.is_some.ensures ∙ c.if-is_some.false in
       c.at_line-2.ensures.verdict
-      ∙ gone _ _ p.shots a.k 14 (source_column a.how a.x.now) p.gone _ c.onward.ensures.value
-      (λ g. let l = c.if-onward-line_count.false in omega arith);
+      ∙ gone _ _ p.shots _ 14 (source_column c.args.how _) p.gone _ refl (λ g. clash (sym e ∙ lt-ltb _ _ g));
 }
