@@ -82,7 +82,7 @@ module _ (r : Sheet) (o t : List ℕ) (x : Sheet) (w : Ready r o t x) (k : ℕ) 
   p = reach_at x k
 
   pub all_led : (c : ℕ) → q.from ≤ c → c < q.upto + 1 → Led q o row c
-  all_led c a b = (walk r x w.set k h q e o w.rows row er (q.upto + 1) p.upto refl (le_refl p.upto)).led c a b
+  all_led c a b = (walk r x w.set k h q e o w.rows row er p.upto p.upto (le_refl p.upto) (le_refl p.upto)).led c a b
 
   -- the row of a channel
   module _ (c : ℕ) (a : q.from ≤ c) (b : c < q.upto + 1) where

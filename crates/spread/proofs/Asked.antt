@@ -1,15 +1,13 @@
 -- The record that is asked for, against the lines of X; what an accepted set gives.
-use Prim.Native.Nat.{ℕ, zero, suc, ◌+◌, ◌-◌, ◌≤◌, ◌<◌}
-use native.Mathlib.Nat.{eq-or-lt_of_le}
+use Prim.Native.Nat.{ℕ, zero, suc, ◌+◌, ◌-◌, ◌<◌, max}
 use native.Mathlib.Omega.{arith}
 use mathlib.Core.Path.{◌≡◌, sym, ap, ◌∙◌}
-use mathlib.Core.Logic.{⊎_elim}
 use mathlib.Core.Bool.{Bool, true, false, ◌&&◌}
-use mathlib.Core.List.{List, [], ◌∷◌}
+use mathlib.Core.List.{List, [], ◌∷◌, ◌++◌}
+use Rattle.std.proofs.lemmas.List.{get_or_append_left}
 use lib.Dec.{eqb, lit≤}
-use lib.ListN.{length, get_or, set, length-set}
-use lib.Seq.{ext_get_or, get_or-set_same, get_or-set_other}
-use borrow.Author.Tests.{eq-eqb, ne_eqb}
+use lib.ListN.{length, get_or}
+use lib.Seq.{ext_get_or}
 use Rattle.rules.specs.Places.{pick, some, greatest}
 use Rattle.rules.specs.Text.{col, cols}
 use Rattle.rules.specs.Numbers.{size, whole}
@@ -73,29 +71,17 @@ pub tape_long : (t : List ℕ) (n : ℕ) → Asked t n → Long 6 t
 tape_long t n a = long_is 6 t (tape_length t n a) (tape_bytes t n a)
 
 -- columns 1 to 6 that hold the tape
-abbrev pub Copied : List ℕ → List ℕ → ℕ → Type 0
-Copied t l i = (length l ≡ 80) × ((j : ℕ) → j < i → get_or l j 0 ≡ get_or t j 0)
-
-pub one_copied : (t l : List ℕ) (i : ℕ) → i < 80 → Copied t l i → Copied t (set l i (get_or t i 0)) (i + 1)
-one_copied t l i h w = (
-  length-set l i (get_or t i 0) ∙ w.0,
-  λ j g.
-      ⊎_elim
-      (λ (z : j ≡ i).
-      let o = w.0 in
-      ap (λ (m : ℕ). get_or (set l i (get_or t i 0)) m 0) z ∙ get_or-set_same l i (get_or t i 0) 0 (omega arith) ∙ ap (λ (m : ℕ). get_or t m 0) (sym z))
-      (λ (z : j < i). get_or-set_other l i j (get_or t i 0) 0 (λ e. omega arith) ∙ w.1 j z)
-      (eq-or-lt_of_le (let z : j ≤ i = omega arith in z)),
-)
-
-pub six_columns : (l t : List ℕ) → length t ≡ 6 → Copied t l 6 → cols l 1 6 ≡ t
+pub six_columns : (t l m : List ℕ) → length t ≡ 6 → l ≡ t → cols (l ++ m) 1 6 ≡ t
 unfolding col
-six_columns l t n w =
-    let m = cols_length l 1 (lit≤ tt) 6 in
-    ext_get_or 0 (cols l 1 6) t (m ∙ sym n)
+six_columns t l m n e =
+    let z = cols_length (l ++ m) 1 (lit≤ tt) 6 in
+    ext_get_or 0 (cols (l ++ m) 1 6) t (z ∙ sym n)
     (λ i h.
     let g : i < 6 = omega arith in
-    cols_at l 1 (lit≤ tt) 6 i g ∙ ap (λ (j : ℕ). get_or l j 0) (let z : 1 + i - 1 ≡ i = omega arith in z) ∙ w.1 i g)
+    let j : i < length l = rw e (omega arith) in
+    cols_at (l ++ m) 1 (lit≤ tt) 6 i g
+    ∙ ap (λ (j : ℕ). get_or (l ++ m) j 0) (let z : 1 + i - 1 ≡ i = omega arith in z)
+    ∙ get_or_append_left l m 0 i j ∙ ap (λ (d : List ℕ). get_or d i 0) e)
 
 pub wanted_is : (m : ℕ) (t : List ℕ) (n : ℕ) → m ≡ packed t → ◌≡◌ {A = Wanted} (record { tape = m; number = n }) (wanted_of t n)
 wanted_is m t n e = λ i. record { tape = e i; number = n }
@@ -107,13 +93,15 @@ module _ (how : Reading) (x : List ℕ) (w : Wanted) (k : ℕ) (l : List ℕ) (e
   of_header y = rw (← e, ← eb, y)
 
   module _ (y : b ≡ false) (t : ℕ) (et : t ≡ packed (cols l 2 7)) where
-    pub of_other : (t ≡ w.tape → ⊥) → false ≡ is_of (sheet_of how x) w k
-    unfolding is_of is_data reach_at reach at sps93
-    of_other z = rw (layout_is how x, ← e, ← eb, y, ← et, ne_eqb t w.tape z)
+    -- v is whether the tape is that one
+    module _ (v : Bool) (ev : v ≡ eqb t w.tape) where
+      pub of_other : v ≡ false → v ≡ is_of (sheet_of how x) w k
+      unfolding is_of is_data reach_at reach at sps93
+      of_other z = rw (layout_is how x, ← e, ← eb, y, ← et, ← ev, z)
 
-    pub of_number : t ≡ w.tape → (m : ℕ) → m ≡ size (whole (cols l 8 11)) → eqb m w.number ≡ is_of (sheet_of how x) w k
-    unfolding is_of is_data reach_at reach number_of at sps93
-    of_number z m em = rw (layout_is how x, ← e, ← eb, y, ← et, eq-eqb t w.tape z, ← em)
+      pub of_number : v ≡ true → (m : ℕ) → m ≡ size (whole (cols l 8 11)) → eqb m w.number ≡ is_of (sheet_of how x) w k
+      unfolding is_of is_data reach_at reach number_of at sps93
+      of_number z m em = rw (layout_is how x, ← e, ← eb, y, ← et, ← ev, z, ← em)
 
 module _ (how : Reading) (x : List ℕ) (w : Wanted) (k : ℕ) (b : Bool) (eb : b ≡ is_of (sheet_of how x) w k) where
   pub upto_there : b ≡ true → (l : List ℕ) → l ≡ (sheet_of how x).row k → (m : ℕ) → m ≡ size (whole (cols l 43 46))
@@ -146,11 +134,8 @@ module _ (x : Sheet) (w : Known 3 x) (t : List ℕ) (n : ℕ) (a : Asked t n) wh
 
 -- the greatest so far
 module _ (g : ℕ → ℕ) (k m u : ℕ) (e : m ≡ greatest k g) (f : u ≡ g k) where
-  pub greater : m < u → u ≡ greatest (k + 1) g
-  greater h = let q = greatest_more g k m e in omega arith
-
-  pub no_greater : u ≤ m → m ≡ greatest (k + 1) g
-  no_greater h = let q = greatest_more g k m e in omega arith
+  pub greatest_max : max m u ≡ greatest (k + 1) g
+  greatest_max = let q = greatest_more g k m e in omega arith
 
 -- an accepted set
 module _ (r x : Sheet) (ok : Accepted r x) where

@@ -1,4 +1,4 @@
-pub mod Places
+pub mod Cleared
 pub mod Taken
 pub mod Asked
 pub mod Rows

@@ -1,7 +1,7 @@
 -- One relation line of an accepted set: in which rows its receivers stand, and what its channels take.
 use Prim.Native.Nat.{ℕ, ◌+◌, ◌-◌, ◌≤◌, ◌<◌}
 use native.Mathlib.Omega.{arith}
-use mathlib.Core.Path.{◌≡◌, ap, ◌∙◌}
+use mathlib.Core.Path.{◌≡◌, refl, ap, ◌∙◌}
 use mathlib.Core.Bool.{Bool, ◌&&◌}
 use mathlib.Core.List.{List}
 use lib.Dec.{leb, ltb}
@@ -12,7 +12,7 @@ use Rattle.rules.specs.Relations.{Reach, reach_at}
 use Rattle.rules.specs.Cover.{lowest, highest, receivers, carries, leads, component}
 use Rattle.rules.specs.Order.{receiver_line}
 use Rattle.rules.specs.Spread.{Put}
-use Rattle.rules.proofs.Tests.{agree, and_is}
+use Rattle.rules.proofs.Tests.{agree}
 use Rattle.rules.specs.MeetsCover.{Carries, Reached}
 use Rattle.rules.proofs.Cover.{reached}
 use Rattle.form.proofs.Known.{upto_small}
@@ -25,7 +25,7 @@ use Rattle.receivers.proofs.There.{stand, row_line_lem}
 use Rattle.spread.specs.Asked.{Accepted}
 use Rattle.spread.specs.RowLine.{row_line, Led}
 use Rattle.spread.specs.Taken.{taken, between, line_in}
-use Rattle.spread.proofs.Places.{Places}
+use Rattle.spread.specs.Puts.{Apart}
 use Rattle.spread.proofs.Taken.{taken_as}
 use Rattle.spread.proofs.Asked.{known_receivers, sound_line, all_there}
 
@@ -37,11 +37,16 @@ pub record Ranges (q : ReachValues) : Type 0 where
   pub one : 1 ≤ q.step
   pub few : q.step ≤ 9
 
--- what the walk over its channels rests on: m places, and a row for each channel before `end`
-pub record Walk (q : ReachValues) (o : List ℕ) (e end m : ℕ) : Type 0 where
-  pub first : 1 ≤ q.from
-  pub room : end ≤ m + 1
+-- what the walk over the channels of line k, those before `end`, rests on: m places and n, a row for each channel, and what it takes
+pub record Walk (r x : Sheet) (k : ℕ) (q : ReachValues) (o : List ℕ) (e end m n : ℕ) : Type 0 where
+  pub coded : q ≡ coded_reach (reach_at x k)
+  pub known : Ranges q
+  pub last : end ≡ q.upto + 1
+  pub lines : end ≤ m + 1
+  pub components : end ≤ n + 1
   pub led : (c : ℕ) → q.from ≤ c → c < end → Led q o e c
+  pub line : (c : ℕ) → q.from ≤ c → c < end → row_line o e (reach_at x k) c ≡ line_in r x k c
+  pub small : (c : ℕ) → q.from ≤ c → c < end → component (reach_at x k) c ≤ 9
 
 -- a number between two others, counted from the lower
 from_lowest : (lo hi n : ℕ) → lo ≤ n → n ≤ hi → (n - lo < hi - lo + 1) × (lo + (n - lo) ≡ n)
@@ -67,14 +72,11 @@ module _ (r x : Sheet) (ok : Accepted r x) (k : ℕ) (h : RelationLine x k) (q :
       (λ t. let g = leb-true c p.upto t in lt-ltb c (p.upto + 1) (omega arith))))
 
   -- a slice after all its channels
-  pub all_put : (put : Put) → Places put → (u v : ℕ → ℕ) → ((c : ℕ) → q.from ≤ c → c < q.upto + 1 → u c ≡ v c)
-      → (n c : ℕ) → c ≡ q.upto + 1 → (d l : List ℕ) → l ≡ taken put (between q.from c) u n d → l ≡ taken put (carries p) v n d
-  all_put put w u v f n c z d l g =
-      g ∙ ap (λ (m : ℕ). taken put (between q.from m) u n d) z
-      ∙ taken_as put w (between q.from (q.upto + 1)) (carries p) u v n d (λ i _. same_channels (i + 1))
-      (λ i _ t.
-      let y = (and_is (leb q.from (i + 1)) (ltb (i + 1) (q.upto + 1))).0 (same_channels (i + 1) ∙ t) in
-      f (i + 1) (leb-true _ _ y.0) (ltb-true _ _ y.1))
+  pub all_put : (put : Put) → Apart put → (v : ℕ → ℕ) (n c : ℕ) → c ≡ q.upto + 1 → (d l : List ℕ)
+      → l ≡ taken put (between q.from c) v n d → l ≡ taken put (carries p) v n d
+  all_put put w v n c z d l g =
+      g ∙ ap (λ (m : ℕ). taken put (between q.from m) v n d) z
+      ∙ taken_as put w (between q.from (q.upto + 1)) (carries p) v v n d (λ i _. same_channels (i + 1)) (λ i _ t. refl)
 
   -- a channel that it carries
   module _ (c : ℕ) (a : q.from ≤ c) (b : c < q.upto + 1) where
@@ -120,7 +122,17 @@ module _ (r x : Sheet) (ok : Accepted r x) (k : ℕ) (h : RelationLine x k) (q :
           ∙ row_line_lem r o (known_receivers r x ok) v x k ok.relations ok.alike h (all_there r x ok k h) (leads p c - lowest p) far.0
           ∙ ap (receiver_line r p) far.1)
 
-  pub walk : (o : List ℕ) → Rows r o → (row : ℕ) → row ≡ first_row r o x k → (end m : ℕ) → end ≡ q.upto + 1 → p.upto ≤ m → Walk q o row end m
-  walk o v row er end m z g =
+  pub walk : (o : List ℕ) → Rows r o → (row : ℕ) → row ≡ first_row r o x k → (m n : ℕ) → p.upto ≤ m → p.upto ≤ n
+      → Walk r x k q o row (q.upto + 1) m n
+  walk o v row er m n g h =
       let u = ap (λ (q : ReachValues). q.upto) e in
-      record { first = ranges.first; room = omega arith; led = λ c a b. led c a (omega arith) o v row er }
+      record {
+        coded = e;
+        known = ranges;
+        last = refl;
+        lines = omega arith;
+        components = omega arith;
+        led = λ c a b. led c a b o v row er;
+        line = λ c a b. row_is c a b o v row er;
+        small = component_small;
+      }

@@ -13,13 +13,12 @@ use mathlib.Core.Logic.{⊎_elim}
 use mathlib.Core.Bool.{Bool, true, false, ◌&&◌, ◌||◌, and-false}
 use mathlib.Core.List.{List}
 use lib.Dec.{leb, ltb}
-use lib.ListN.{length}
 use borrow.Author.Tests.{leb-true, le-leb, lt-ltb, le-ltb, ltb-true}
 use Rattle.rules.specs.Places.{pick}
 use Rattle.rules.specs.Spread.{turns, Put}
 use Rattle.rules.proofs.Tests.{clash, agree, and_is}
 use Rattle.spread.specs.Taken.{taken, between}
-use Rattle.spread.proofs.Places.{Places}
+use Rattle.spread.specs.Puts.{Apart}
 
 pub is_between : (a e c : ℕ) → a ≤ c → c < e → between a e c ≡ true
 is_between a e c h g = (and_is (leb a c) (ltb c e)).1 (le-leb a c h, lt-ltb c e g)
@@ -60,16 +59,17 @@ module _ (put : Put) where
   all_turns v zero d = refl
   all_turns v (suc n) d = ap (put v n) (all_turns v n d)
 
-  module _ (w : Places put) where
-    pub taken_size : (p : ℕ → Bool) (v : ℕ → ℕ) (n : ℕ) (d : List ℕ) → length (taken put p v n d) ≡ length d
-    unfolding taken pick
-    taken_size p v zero d = refl
-    taken_size p v (suc n) d = go (p (n + 1)) (taken put p v n d) (taken_size p v n d)
-      where
-        go : (b : Bool) (l : List ℕ) → length l ≡ length d → length (pick b (put v n l) l) ≡ length d
-        go true l e = w.size v n l ∙ e
-        go false l e = e
+  pub taken_size : (room : List ℕ → ℕ) → ((v : ℕ → ℕ) (i : ℕ) (l : List ℕ) → room (put v i l) ≡ room l)
+      → (p : ℕ → Bool) (v : ℕ → ℕ) (n : ℕ) (d : List ℕ) → room (taken put p v n d) ≡ room d
+  unfolding taken pick
+  taken_size room size p v zero d = refl
+  taken_size room size p v (suc n) d = go (p (n + 1)) (taken put p v n d) (taken_size room size p v n d)
+    where
+      go : (b : Bool) (l : List ℕ) → room l ≡ room d → room (pick b (put v n l) l) ≡ room d
+      go true l e = size v n l ∙ e
+      go false l e = e
 
+  module _ (w : Apart put) where
     pub taken_as : (p q : ℕ → Bool) (u v : ℕ → ℕ) (n : ℕ) (d : List ℕ) → ((i : ℕ) → i < n → p (i + 1) ≡ q (i + 1))
         → ((i : ℕ) → i < n → q (i + 1) ≡ true → u (i + 1) ≡ v (i + 1)) → taken put p u n d ≡ taken put q v n d
     unfolding taken

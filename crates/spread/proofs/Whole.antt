@@ -30,11 +30,10 @@ use Rattle.rules.proofs.Traces.{given, found_trace, not_carried}
 use Rattle.rules.proofs.Spreads.{highest_is}
 use Rattle.lines.proofs.Tests.{untrue}
 use Rattle.form.specs.Known.{Known}
-use Rattle.form.proofs.Known.{upto_small}
 use Rattle.spread.specs.declared.wanted.Wanted.{Wanted}
 use Rattle.spread.specs.Asked.{Asked, wanted_of, is_of, Accepted}
 use Rattle.spread.specs.Taken.{taken, here, here_up_to, component_at}
-use Rattle.spread.proofs.Places.{Places}
+use Rattle.spread.specs.Puts.{Apart}
 use Rattle.spread.proofs.Taken.{none_taken, taken_as, taken_then, all_taken}
 use Rattle.spread.proofs.Asked.{is_of_lem, meets}
 
@@ -65,7 +64,7 @@ module _ (x : Sheet) (t : List ℕ) (n : ℕ) (known : Known 3 x) (asked : Asked
   is_here : b ≡ (is_data x k && of_record t n (reach_at x k))
   is_here = eb ∙ ap (λ (v : Wanted). is_of x v k) ew ∙ is_of_lem x known t n asked k h
 
-  module _ (put : Put) (pl : Places put) (v : ℕ → ℕ) (m : ℕ) (d l : List ℕ) (inv : l ≡ taken put (here_up_to x t n k) v m d) where
+  module _ (put : Put) (pl : Apart put) (v : ℕ → ℕ) (m : ℕ) (d l : List ℕ) (inv : l ≡ taken put (here_up_to x t n k) v m d) where
     more_put : (l' : List ℕ) → l' ≡ taken put (here x t n k) v m l → l' ≡ taken put (here_up_to x t n (k + 1)) v m d
     unfolding some
     more_put l' e =
@@ -88,7 +87,7 @@ module _ (x : Sheet) (t : List ℕ) (n : ℕ) (known : Known 3 x) (asked : Asked
     pub room_on : (m : ℕ) → highest_of x t n ≤ m → (reach_at x k).upto ≤ m
     room_on m l = (highest_is x t n m).0 l k h of
 
-    pub line_on : (r : Sheet) → Accepted r x → (put : Put) → Places put → (part : Answer → ℕ) (u v : ℕ → ℕ)
+    pub line_on : (r : Sheet) → Accepted r x → (put : Put) → Apart put → (part : Answer → ℕ) (u v : ℕ → ℕ)
         → ((c : ℕ) → part (given r (reach_at x k) c) ≡ u c) → ((c : ℕ) → part (found r x t n c) ≡ v c) → (m : ℕ) (d l l' : List ℕ)
         → l ≡ taken put (here_up_to x t n k) v m d → l' ≡ taken put (carries (reach_at x k)) u m l → l' ≡ taken put (here_up_to x t n (k + 1)) v m d
     line_on r ok put pl part u v eu ev m d l l' inv g =
@@ -98,9 +97,6 @@ module _ (x : Sheet) (t : List ℕ) (n : ℕ) (known : Known 3 x) (asked : Asked
         (λ i _ z.
         let a = (here_is x t n k (i + 1)).0 z in
         sym (eu (i + 1)) ∙ ap part (sym (found_trace r ok.shots x (meets r x ok) t n (i + 1) k h of a.1.1)) ∙ ev (i + 1)))
-
-pub highest_small : (x : Sheet) (t : List ℕ) (n : ℕ) → Known 3 x → highest_of x t n ≤ 99999999
-highest_small x t n w = (highest_is x t n 99999999).1 (λ k h o. let u = upto_small 3 x w k h in omega arith)
 
 pub no_line_lem : (put : Put) (x : Sheet) (t : List ℕ) (n : ℕ) (v : ℕ → ℕ) (m : ℕ) (d : List ℕ) → d ≡ taken put (here_up_to x t n 0) v m d
 no_line_lem put x t n v m d = none_taken put (here_up_to x t n 0) v m d (λ i _. some_none (λ j. here x t n j (i + 1)))
@@ -126,7 +122,7 @@ module _ (r x : Sheet) (t : List ℕ) (n : ℕ) (part : Answer → ℕ) (zero : 
       (λ k h o y. clash (sym f ∙ (some_is x.count (λ j. here x t n j c)).1 (k, h, (here_is x t n k c).1 (o.0, (o.1, y))))))
       ∙ zero
 
-  pub whole : (put : Put) → Places put → (h m : ℕ) → h ≡ highest_of x t n → h ≤ m → (d l e : List ℕ) → l ≡ turns (put (λ _. 0)) h d
+  pub whole : (put : Put) → Apart put → (h m : ℕ) → h ≡ highest_of x t n → h ≤ m → (d l e : List ℕ) → l ≡ turns (put (λ _. 0)) h d
       → e ≡ taken put (here_up_to x t n x.count) v m l → e ≡ turns (put v) (highest_of x t n) d
   whole put pl h m q g d l e el ee =
       all_taken put pl (here_up_to x t n x.count) v h m d l e g (λ i a _. high_none i (omega arith)) uncarried el ee

@@ -3,7 +3,6 @@
 --   wanted_of t n   = they as the code has them, the tape as one number
 --   is_of x w k     = line k of X is a relation line of that tape and record
 --   Accepted r x   = R and X stand in an accepted set, with some S, in one medium
---   InSet x        = X stands in one, with some R
 use Rattle.std.specs.Prelude.{ℕ, ◌≡◌, Bool, true, ◌&&◌, List, eqb}
 use Rattle.rules.specs.Plan.{fine, run}
 use Rattle.rules.specs.Layout.{sps93}
@@ -31,6 +30,3 @@ pub record Accepted (r x : Sheet) : Type 0 where
   pub receivers : Known 1 r
   pub relations : Known 3 x
   pub alike : r.rank ≡ x.rank
-
-abbrev pub InSet : Sheet → Type 0
-InSet x = (r : Sheet) × Accepted r x

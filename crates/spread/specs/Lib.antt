@@ -1,3 +1,4 @@
 pub mod Asked
 pub mod RowLine
+pub mod Puts
 pub mod Taken

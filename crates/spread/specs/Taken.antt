@@ -6,7 +6,6 @@
 --   line_in r x k c        = the R line that relation line k leads channel c to
 --   line_at, component_at   = the R line and the component that channel c of a record leads to; 0 where there is no trace
 --   lines_by, components_by = a slice after the channels of relation line k
---   record_lines, record_components = after the channels of a record
 --   filled_lines, filled_components = after all channels up to the record's highest
 use Rattle.std.specs.Prelude.{ℕ, zero, suc, ◌+◌, Bool, ◌&&◌, List, leb, ltb}
 use Rattle.rules.specs.Places.{pick, some}
@@ -48,12 +47,6 @@ lines_by put r x k = taken put (carries (reach_at x k)) (line_in r x k)
 
 abbrev pub components_by : Sheet → ℕ → ℕ → List ℕ → List ℕ
 components_by x k = taken place (carries (reach_at x k)) (component (reach_at x k))
-
-abbrev pub record_lines : Put → Sheet → Sheet → List ℕ → ℕ → ℕ → List ℕ → List ℕ
-record_lines put r x t n = taken put (here_up_to x t n x.count) (line_at r x t n)
-
-abbrev pub record_components : Sheet → List ℕ → ℕ → ℕ → List ℕ → List ℕ
-record_components x t n = taken place (here_up_to x t n x.count) (component_at x t n)
 
 abbrev pub filled_lines : Put → Sheet → Sheet → List ℕ → ℕ → List ℕ → List ℕ
 filled_lines put r x t n = turns (put (line_at r x t n)) (highest_of x t n)

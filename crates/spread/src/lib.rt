@@ -1,23 +1,24 @@
 #![tactic(auto)]
 // The spread table of a record: its highest covered channel, and the R line and component of each channel up to it, written into
 // two lent slices. One array is its own: the receivers of R in their order.
-ghost use Rattle.std.specs.Prelude.{◌≡◌, ◌*◌, ◌/◌, ◌≤◌, length, take};
+ghost use Rattle.std.specs.Prelude.{◌≡◌, ◌≤◌, length, take};
 ghost use Rattle.rules.specs.Sheet.{most_lines};
-ghost use Rattle.rules.specs.Spread.{highest_of, place, byte_place};
+ghost use Rattle.rules.specs.Relations.{reach_at};
+ghost use Rattle.rules.specs.Spread.{highest_of};
 ghost use Rattle.lines.specs.Reading.{sheet_of};
 ghost use Rattle.form.specs.Known.{Known};
-ghost use Rattle.keys.specs.Held.{KnownReceivers};
+ghost use Rattle.keys.specs.Held.{KnownReceivers, RelationLine};
 ghost use Rattle.receivers.specs.Rows.{Rows};
-ghost use Rattle.spread.specs.Asked.{Asked, Accepted, InSet};
-ghost use Rattle.spread.specs.Taken.{record_lines, filled_lines, filled_components};
+ghost use Rattle.spread.specs.Asked.{Asked, Accepted};
+ghost use Rattle.spread.specs.Taken.{lines_by, components_by, filled_lines, filled_components};
 
 use keys::{By, Keyed};
 use lines::Reading;
+use place::Places;
+use records::{cover, relation};
 
-mod bytes;
-mod components;
 pub mod led;
-mod numbers;
+pub mod place;
 pub mod wanted;
 
 // The record's highest covered channel; 0 where the record is absent.
@@ -26,17 +27,9 @@ pub fn highest(how: Reading, x: &[u8], tape: &[u8], record: u64) -> u64
     ensures value { result ≡ highest_of (sheet_of how x.now) tape.now «record» }
 {
     let w = wanted::coded(tape, record);
-    let count = lines::line_count(how, x);
     let mut h: u64 = 0;
-    let mut k = 0;
-    while k < count {
-        let u = wanted::upto_of(how, x, k, w);
-        if h < u {
-            h = u;
-            k += 1;
-        } else {
-            k += 1;
-        }
+    for k in 0..lines::line_count(how, x) {
+        h = h.max(wanted::upto_of(how, x, k, w));
     }
     h
 }
@@ -58,95 +51,62 @@ fn in_order(how: Reading, r: &[u8], o: &mut [u32]) -> usize
     )
 }
 
-// Puts the R lines of the record's channels, as numbers.
-fn put_numbers(how: Reading, r: &[u8], x: &[u8], tape: &[u8], record: u64, lines: &mut [u16])
-    requires { Accepted (sheet_of how r.now) (sheet_of how x.now)
-        × (Asked tape.now «record» × (highest_of (sheet_of how x.now) tape.now «record» ≤ length lines.old)) }
-    ensures written { lines.new
-        ≡ record_lines place (sheet_of how r.now) (sheet_of how x.now) tape.now «record»
-        (length lines.old) lines.old }
-{
-    let mut o = [0u32; lines::MOST_LINES];
-    let m = in_order(how, r, &mut o);
-    numbers::put_all(how, r, &o[..m], x, tape, record, lines);
-}
-
-// The same as bytes.
-fn put_bytes(how: Reading, r: &[u8], x: &[u8], tape: &[u8], record: u64, lines: &mut [u8])
-    requires { Accepted (sheet_of how r.now) (sheet_of how x.now)
-        × (Asked tape.now «record» × (2 * highest_of (sheet_of how x.now) tape.now «record» ≤ length lines.old)) }
-    ensures written { lines.new
-        ≡ record_lines byte_place (sheet_of how r.now) (sheet_of how x.now) tape.now «record»
-        (length lines.old / 2) lines.old }
-{
-    let mut o = [0u32; lines::MOST_LINES];
-    let m = in_order(how, r, &mut o);
-    bytes::put_all(how, r, &o[..m], x, tape, record, lines);
-}
-
-// Puts the components of the record's channels up to the highest, or 0.
-fn fill_components(
+// Puts the R lines and the components of the channels of relation line k.
+fn put<P: Places>(
     how: Reading,
+    r: &[u8],
+    o: &[u32],
     x: &[u8],
-    tape: &[u8],
-    record: u64,
-    h: usize,
+    k: usize,
+    lines: &mut [P::Unit],
     components: &mut [u8],
 )
-    requires { InSet (sheet_of how x.now)
-        × (Asked tape.now «record» × ((h ≡ highest_of (sheet_of how x.now) tape.now «record») × (h ≤ length components.old))) }
-    ensures written { components.new
-        ≡ filled_components (sheet_of how x.now) tape.now «record» components.old }
+    requires { (Accepted (sheet_of how r.now) (sheet_of how x.now) × Rows (sheet_of how r.now) o.now)
+        × (RelationLine (sheet_of how x.now) k
+        × (((reach_at (sheet_of how x.now) k).upto ≤ P.room (P.held lines.old))
+        × ((reach_at (sheet_of how x.now) k).upto ≤ length components.old))) }
+    ensures lines { P.held lines.new
+        ≡ lines_by P.puts (sheet_of how r.now) (sheet_of how x.now) k (P.room (P.held lines.old)) (P.held lines.old) }
+    ensures components { components.new
+        ≡ components_by (sheet_of how x.now) k (length components.old) components.old }
 {
-    bytes::clear(h, components);
-    components::put_all(how, x, tape, record, components);
+    let q = relation::reach_of(&lines::line_of(how, x, k));
+    let e = receivers::first_row(how, r, o, x, k);
+    let end = q.upto as usize + 1;
+    for c in q.from as usize..end {
+        P::put(lines, c - 1, led::line_to(q, o, e, c) as u16);
+        components[c - 1] = cover::component(q, c as u64) as u8;
+    }
 }
 
 // Fills the spread table of an accepted set: place c - 1 takes the R line and the component of channel c, or 0 and 0, up to the
 // record's highest covered channel; later places stay.
-pub fn fill(
+pub fn fill<P: Places>(
     how: Reading,
     r: &[u8],
     x: &[u8],
     tape: &[u8],
     record: u64,
-    lines: &mut [u16],
+    lines: &mut [P::Unit],
     components: &mut [u8],
 )
     requires { (Accepted (sheet_of how r.now) (sheet_of how x.now) × Asked tape.now «record»)
-        × ((highest_of (sheet_of how x.now) tape.now «record» ≤ length lines.old)
+        × ((highest_of (sheet_of how x.now) tape.now «record» ≤ P.room (P.held lines.old))
         × (highest_of (sheet_of how x.now) tape.now «record» ≤ length components.old)) }
-    ensures lines { lines.new
-        ≡ filled_lines place (sheet_of how r.now) (sheet_of how x.now) tape.now «record» lines.old }
+    ensures lines { P.held lines.new
+        ≡ filled_lines P.puts (sheet_of how r.now) (sheet_of how x.now) tape.now «record» (P.held lines.old) }
     ensures components { components.new
         ≡ filled_components (sheet_of how x.now) tape.now «record» components.old }
 {
     let h = highest(how, x, tape, record) as usize;
-    fill_components(how, x, tape, record, h, components);
-    numbers::clear(h, lines);
-    put_numbers(how, r, x, tape, record, lines);
-}
-
-// The same where the lines are a byte slice, two bytes a number, low byte first.
-pub fn fill_bytes(
-    how: Reading,
-    r: &[u8],
-    x: &[u8],
-    tape: &[u8],
-    record: u64,
-    lines: &mut [u8],
-    components: &mut [u8],
-)
-    requires { (Accepted (sheet_of how r.now) (sheet_of how x.now) × Asked tape.now «record»)
-        × ((2 * highest_of (sheet_of how x.now) tape.now «record» ≤ length lines.old)
-        × (highest_of (sheet_of how x.now) tape.now «record» ≤ length components.old)) }
-    ensures lines { lines.new
-        ≡ filled_lines byte_place (sheet_of how r.now) (sheet_of how x.now) tape.now «record» lines.old }
-    ensures components { components.new
-        ≡ filled_components (sheet_of how x.now) tape.now «record» components.old }
-{
-    let h = highest(how, x, tape, record) as usize;
-    fill_components(how, x, tape, record, h, components);
-    bytes::clear(2 * h, lines);
-    put_bytes(how, r, x, tape, record, lines);
+    P::clear(h, lines);
+    components[..h].fill(0);
+    let mut o = [0u32; lines::MOST_LINES];
+    let m = in_order(how, r, &mut o);
+    let w = wanted::coded(tape, record);
+    for k in 0..lines::line_count(how, x) {
+        if wanted::is_of(how, x, k, w) {
+            put::<P>(how, r, &o[..m], x, k, lines, components);
+        }
+    }
 }

@@ -10,7 +10,7 @@ use lines::Reading;
 use records::{fits, relation};
 
 // A tape, its six bytes as one number, and the number of a record.
-#[derive(Clone, Copy)]
+#[derive(Clone, Copy, Debug, PartialEq, Eq)]
 pub struct Wanted {
     pub tape: u64,
     pub number: u64,
@@ -22,11 +22,7 @@ pub fn coded(tape: &[u8], record: u64) -> Wanted
     ensures value { result ≡ wanted_of tape.now «record» }
 {
     let mut l = [0; 80];
-    let mut i = 0;
-    while i < 6 {
-        l[i] = tape[i];
-        i += 1;
-    }
+    l[..6].copy_from_slice(tape);
     Wanted {
         tape: names::pack(&l, 1, 6),
         number: record,
@@ -39,13 +35,9 @@ pub fn is_of(how: Reading, x: &[u8], k: usize, w: Wanted) -> bool
     ensures value { result ≡ is_of (sheet_of how x.now) w k }
 {
     let l = lines::line_of(how, x, k);
-    if fits::is_header(&l) {
-        return false;
-    }
-    if names::pack(&l, 2, 7) != w.tape {
-        return false;
-    }
-    relation::number_at(&l, 8, 11) as u64 == w.number
+    !fits::is_header(&l)
+        && names::pack(&l, 2, 7) == w.tape
+        && u64::from(relation::number_at(&l, 8, 11)) == w.number
 }
 
 // The last channel of line k, where it is a relation line of that tape and record; 0 for any other line.
@@ -54,7 +46,7 @@ pub fn upto_of(how: Reading, x: &[u8], k: usize, w: Wanted) -> u64
     ensures value { result ≡ pick (is_of (sheet_of how x.now) w k) (reach_at (sheet_of how x.now) k).upto 0 }
 {
     if is_of(how, x, k, w) {
-        return relation::number_at(&lines::line_of(how, x, k), 43, 46) as u64;
+        return u64::from(relation::number_at(&lines::line_of(how, x, k), 43, 46));
     }
     0
 }

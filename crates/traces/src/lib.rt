@@ -15,7 +15,7 @@ ghost use Rattle.sets.specs.Paper.{paper as set_paper, cross_on};
 ghost use Rattle.spread.specs.Asked.{Asked, Accepted};
 ghost use Rattle.traces.specs.Paper.{paper, paper_spread};
 ghost use Rattle.traces.specs.Steps.{traced_on, ReceiverLine};
-ghost use Rattle.traces.specs.Calls.{lookup_on, way_back_on, table_on, SpreadTable, SpreadBytes};
+ghost use Rattle.traces.specs.Calls.{lookup_on, way_back_on, table_on, Spreads, SpreadTable, SpreadBytes};
 
 use keys::{By, Keyed};
 use lines::Reading;
@@ -23,6 +23,7 @@ use records::{cover, relation};
 use rows::Wanted;
 use search::Sought;
 use sets::Answer as SetAnswer;
+use spread::place::{Bytes, Numbers, Places};
 
 mod asked;
 mod back;
@@ -200,6 +201,27 @@ fn judged(q: Question, r: &[u8], s: &[u8], x: &[u8], tape: &[u8], m: usize, n: u
     Spread::Highest(h)
 }
 
+// The spread table, over how the R line of a channel is put at its place.
+fn filled<P: Places>(
+    q: Question,
+    r: &[u8],
+    s: &[u8],
+    x: &[u8],
+    tape: &[u8],
+    lines: &mut [P::Unit],
+    components: &mut [u8],
+) -> Spread
+    ensures table { Spreads P.puts P.room (table_on q.how r.now s.now x.now tape.now q.«record»
+        (P.held lines.old) components.old) (paper_spread result) (P.held lines.new) components.new }
+{
+    let a = judged(q, r, s, x, tape, P::room(lines), components.len());
+    if let Spread::Refused(_, _, _, _) = a {
+        return a;
+    }
+    spread::fill::<P>(q.how, r, x, tape, q.record, lines, components);
+    a
+}
+
 // The spread table: place c - 1 of the slices takes the R line and the component of channel c, or 0 and 0, up to the record's highest
 // covered channel; later places stay, and a refusal writes nothing.
 pub fn spread_table(
@@ -214,14 +236,7 @@ pub fn spread_table(
     ensures table { SpreadTable (table_on q.how r.now s.now x.now tape.now q.«record»
         lines.old components.old) (paper_spread result) lines.new components.new }
 {
-    let how = q.how;
-    let record = q.record;
-    let a = judged(q, r, s, x, tape, lines.len(), components.len());
-    if let Spread::Refused(_, _, _, _) = a {
-        return a;
-    }
-    spread::fill(how, r, x, tape, record, lines, components);
-    a
+    filled::<Numbers>(q, r, s, x, tape, lines, components)
 }
 
 // The same for hosts whose slices are bytes: two bytes a number, low byte first; an odd last byte is no place and stays.
@@ -237,14 +252,7 @@ pub fn spread_bytes(
     ensures table { SpreadBytes (table_on q.how r.now s.now x.now tape.now q.«record»
         lines.old components.old) (paper_spread result) lines.new components.new }
 {
-    let how = q.how;
-    let record = q.record;
-    let v = judged(q, r, s, x, tape, lines.len() / 2, components.len());
-    if let Spread::Refused(_, _, _, _) = v {
-        return v;
-    }
-    spread::fill_bytes(how, r, x, tape, record, lines, components);
-    v
+    filled::<Bytes>(q, r, s, x, tape, lines, components)
 }
 
 // All traces of a set as rows: the cross-check's own answer, and of an accepted set the rows from trace `first` on in the places of a slice, as
