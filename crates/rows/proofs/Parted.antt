@@ -1,25 +1,33 @@
 -- The rows of a part of a relation line, put one after the other.
 --   part_length     = sixteen bytes a row
---   component_few   = a component is at most the increment
+--   component_low   = a component is at most the increment, and so has one digit
 --   part_none, part_more = no row is put yet; one more
 use Prim.Native.Nat.{ℕ, zero, suc, ◌+◌, ◌-◌, ◌*◌, ◌%◌, ◌≤◌, ◌<◌}
 use native.Mathlib.Nat.{mod-lt}
 use native.Mathlib.Omega.{arith}
-use mathlib.Core.Path.{◌≡◌, refl, ◌∙◌}
+use mathlib.Core.Path.{◌≡◌, refl, ap, ◌∙◌}
 use mathlib.Core.List.{List, ◌++◌}
 use lib.ListN.{length, length-append}
 use Rattle.rules.specs.Relations.{Reach}
 use Rattle.rules.specs.Cover.{component}
 use Rattle.rules.specs.Hosts.{low_bytes}
 use Rattle.order.specs.Sorted.{nth}
-use Rattle.spread.specs.RowLine.{row_to}
+use Rattle.records.specs.declared.relation.Reach.{Reach as ReachValues}
+use Rattle.spread.specs.RowLine.{row_to, Led}
 use Rattle.rows.specs.Spliced.{spliced}
 use Rattle.rows.specs.Parts.{row_by, part_rows}
 use Rattle.rows.proofs.Splices.{low_length, spliced_none, spliced_after}
 
-pub component_few : (v : Reach) (c : ℕ) → 1 ≤ v.step → component v c ≤ v.step
+component_few : (v : Reach) (c : ℕ) → 1 ≤ v.step → component v c ≤ v.step
 unfolding component
 component_few v c h = let m : (c - v.from) % v.step < v.step = mod-lt (c - v.from) h in omega arith
+
+pub component_low : (q : ReachValues) (o : List ℕ) (e c : ℕ) (w : Led q o e c) → q.step ≤ 9 → component w.reach c ≤ 9
+component_low q o e c w f =
+    let z = ap (λ (q : ReachValues). q.step) w.coded in
+    let h = w.one in
+    let n = component_few w.reach c (omega arith) in
+    omega arith
 
 module _ (l : ℕ) (o t : List ℕ) (e : ℕ) (v : Reach) (channel : ℕ) where
   pub part_length : (n : ℕ) → length (part_rows l o t e v channel n) ≡ 16 * n

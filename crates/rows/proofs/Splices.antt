@@ -3,15 +3,17 @@
 --   spliced_length  = a slice keeps its length
 --   spliced_none    = no byte is put
 --   spliced_after   = bytes put behind bytes
---   four_set        = four bytes, set one after the other
+--   four_put        = the bytes of a number of 32 bits
 --   sixteen_put     = four numbers of four bytes
-use Prim.Native.Nat.{ℕ, zero, suc, ◌+◌, ◌/◌, ◌%◌, ◌≤◌}
+use Prim.Native.Nat.{ℕ, zero, suc, ◌+◌, ◌-◌, ◌/◌, ◌%◌, ◌≤◌}
 use native.Mathlib.Nat.{add-zero}
 use native.Mathlib.Omega.{arith}
-use mathlib.Core.Path.{◌≡◌, refl, ap, ◌∙◌}
-use mathlib.Core.List.{List, [], ◌++◌, append_assoc}
-use lib.ListN.{length, take, drop, set, length-append, length-take, length-drop, take-append-drop}
-use lib.Seq.{sets-eq, take_at, drop_at, drop-drop}
+use mathlib.Core.Path.{◌≡◌, refl, ap, ap₂, ◌∙◌}
+use mathlib.Core.List.{List, [], ◌∷◌, ◌++◌, append_assoc}
+use lib.ListN.{length, take, drop, length-append, length-take, length-drop, take-append-drop}
+use lib.Seq.{take_at, drop_at, drop-drop}
+use Rattle.std.specs.Int.{to_le_bytes}
+use mir.Syntax.{w32}
 use Rattle.rules.specs.Hosts.{low_bytes}
 use Rattle.rows.specs.Spliced.{spliced}
 
@@ -39,15 +41,19 @@ spliced_after at mid us bs o p q z h e f =
     let n : at + length (us ++ bs) ≡ mid + length bs = simp length-append (omega arith) in
     f ∙ (rw (s, take_at a b mid l, ← drop-drop (length bs) mid (a ++ b), drop_at a b mid l, drop-drop, n, append_assoc, append_assoc))
 
-pub four_set : (v at : ℕ) (o : List ℕ) → at + 4 ≤ length o
-    → set (set (set (set o at (v % 256)) (at + 1) (v / 256 % 256)) (at + 2) (v / 256 / 256 % 256)) (at + 3) (v / 256 / 256 / 256 % 256)
-    ≡ spliced at (low_bytes 4 v) o
+four_low : (v : ℕ) → to_le_bytes w32 v ≡ low_bytes 4 v
+unfolding low_bytes
+four_low v =
+    let a : v / 65536 ≡ v / 256 / 256 = omega arith in
+    let b : v / 16777216 ≡ v / 256 / 256 / 256 = omega arith in
+    ap₂ (λ (m n : ℕ). (v % 256) ∷ (v / 256 % 256) ∷ (m % 256) ∷ (n % 256) ∷ []) a b
+
+pub four_put : (v at : ℕ) (o bs : List ℕ) → bs ≡ to_le_bytes w32 v
+    → take at o ++ (bs ++ drop (at + 4 - at) (drop at o)) ≡ spliced at (low_bytes 4 v) o
 unfolding spliced low_bytes
-four_set v at o h =
-    let a : at + 1 ≡ suc at = omega arith in
-    let b : at + 2 ≡ suc (suc at) = omega arith in
-    let c : at + 3 ≡ suc (suc (suc at)) = omega arith in
-    rw (a, b, c) (sets-eq (low_bytes 4 v) o at h ∙ append_assoc (take at o) (low_bytes 4 v) (drop (at + 4) o))
+four_put v at o bs e =
+    let z : at + 4 - at ≡ 4 = omega arith in
+    rw (e ∙ four_low v, z, drop-drop 4 at o) refl
 
 pub sixteen_put : (at : ℕ) (us bs cs ds o p q s t : List ℕ) → length us ≡ 4 → length bs ≡ 4 → length cs ≡ 4 → at + 16 ≤ length o
     → p ≡ spliced at us o → q ≡ spliced (at + 4) bs p → s ≡ spliced (at + 8) cs q → t ≡ spliced (at + 12) ds s

@@ -17,14 +17,14 @@ mod part;
 mod row;
 
 // How the files are read, and the number of the first trace that is wanted.
-#[derive(Clone, Copy)]
+#[derive(Clone, Copy, Debug, PartialEq, Eq)]
 pub struct Wanted {
     pub how: Reading,
     pub first: u64,
 }
 
 // A line of X, from 0, and how many traces the lines above it have.
-#[derive(Clone, Copy)]
+#[derive(Clone, Copy, Debug, PartialEq, Eq)]
 struct Line {
     k: usize,
     above: u64,
@@ -36,10 +36,8 @@ fn mark_killed(how: Reading, r: &[u8], o: &[u32], t: &mut [u32])
     ensures written { Marked (sheet_of how r.now) o.now t.new
         × (length t.new ≡ length t.old) }
 {
-    let mut j = 0;
-    while j < o.len() {
+    for j in 0..o.len() {
         t[j] = dead::one_if_killed(how, r, o[j] as usize);
-        j += 1;
     }
 }
 
@@ -47,14 +45,7 @@ fn mark_killed(how: Reading, r: &[u8], o: &[u32], t: &mut [u32])
 fn places_to(n: u64, first: u64, places: usize) -> usize
     ensures value { result ≡ min (n - first) places }
 {
-    if n <= first {
-        return 0;
-    }
-    let m = n - first;
-    if places as u64 <= m {
-        return places;
-    }
-    m as usize
+    n.saturating_sub(first).min(places as u64) as usize
 }
 
 // Puts the rows of line l as far as they are wanted and have places, and says how many traces the lines above the next one have.
@@ -104,14 +95,9 @@ fn put_all(w: Wanted, r: &[u8], o: &[u32], t: &[u32], x: &[u8], places: &mut [u8
     ensures written { places.new
         ≡ rows_over (sheet_of w.how r.now) (sheet_of w.how x.now) w.first places.old }
 {
-    let how = w.how;
-    let first = w.first;
-    let count = lines::line_count(how, x);
     let mut above: u64 = 0;
-    let mut k = 0;
-    while k < count {
-        above = put_line(Wanted { how, first }, r, o, t, x, Line { k, above }, places);
-        k += 1;
+    for k in 0..lines::line_count(w.how, x) {
+        above = put_line(w, r, o, t, x, Line { k, above }, places);
     }
 }
 

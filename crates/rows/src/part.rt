@@ -11,7 +11,7 @@ use records::relation::Reach;
 use spread::led;
 
 // The number of the line, the first channel that is put, its place, and the place after the last one's.
-#[derive(Clone, Copy)]
+#[derive(Clone, Copy, Debug, PartialEq, Eq)]
 pub struct Part {
     pub line: u32,
     pub channel: usize,
@@ -25,15 +25,10 @@ pub fn put(q: Reach, o: &[u32], t: &[u32], e: usize, p: Part, places: &mut [u8])
     ensures written { (v : PaperReach) → q ≡ coded_reach v → places.new
         ≡ spliced (16 * p.place) (part_rows p.line o.now t.now e v p.channel (p.end - p.place)) places.old }
 {
-    let line = p.line;
-    let end = p.end;
-    let mut c = p.channel;
-    let mut i = p.place;
-    while i < end {
+    for i in p.place..p.end {
+        let c = p.channel + (i - p.place);
         let j = led::row_to(q, o, e, c);
         let last = cover::component(q, c as u64) as u32 + 256 * t[j];
-        row::put(line, c as u32, o[j] + 1, last, 16 * i, places);
-        c += 1;
-        i += 1;
+        row::put(p.line, c as u32, o[j] + 1, last, 16 * i, places);
     }
 }

@@ -8,12 +8,7 @@ fn put_four(v: u32, at: usize, bytes: &mut [u8])
     requires { at + 4 ≤ length bytes.old }
     ensures written { bytes.new ≡ spliced at (low_bytes 4 v) bytes.old }
 {
-    let b = v / 256;
-    let c = b / 256;
-    bytes[at] = (v % 256) as u8;
-    bytes[at + 1] = (b % 256) as u8;
-    bytes[at + 2] = (c % 256) as u8;
-    bytes[at + 3] = (c / 256 % 256) as u8;
+    bytes[at..at + 4].copy_from_slice(&v.to_le_bytes());
 }
 
 // Puts four numbers at sixteen bytes.
