@@ -75,13 +75,13 @@ module _ (s : Sheet) (w : Known 2 s) (k : ℕ) (h : k < s.count) (again : ℕ) (
       let f = like_same b.0 o.0 o.1 o.2 in
       need_broken _ _ (every_stop _ o.0 k o.1 (rw (f.0, f.1))) ∙ when_on _ _ b.0
 
-  pub twelve_broken : k ≡ again → s.layout ≡ sps93 → refused (№ 12 2 (k + 1) 2) ≡ run (rule12 s k)
+  pub twelve_broken : k ≡ again → s.layout ≡ sps93 → run (rule12 s k) ≡ refused (№ 12 2 (k + 1) 2)
   unfolding sps93
-  twelve_broken z y = ap (λ (L : Layout). refused (№ 12 2 (k + 1) L.name.first)) (sym y) ∙ refuses z
+  twelve_broken z y = sym (ap (λ (L : Layout). refused (№ 12 2 (k + 1) L.name.first)) (sym y) ∙ refuses z)
 
-  pub twelve_fine : (k ≡ again → ⊥) → fine ≡ run (rule12 s k)
+  pub twelve_fine : (k ≡ again → ⊥) → run (rule12 s k) ≡ fine
   unfolding rule12
-  twelve_fine n = go (is_point s k) refl
+  twelve_fine n = sym (go (is_point s k) refl)
     where
       go : (t : Bool) → is_point s k ≡ t → fine ≡ run (rule12 s k)
       go false p = when_off _ _ p

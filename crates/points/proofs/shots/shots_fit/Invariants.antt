@@ -1,6 +1,5 @@
--- What the loops of `points::shots::shots_fit` keep.
-use Prim.Native.Nat.{◌-◌, ◌≤◌}
-use mathlib.Core.Path.{◌≡◌}
+-- What the loop of `points::shots::shots_fit` keeps.
+use Rattle.std.proofs.Common.{◌≡◌}
 use Rattle.rules.specs.Plan.{fine, run, up_to}
 use Rattle.lines.specs.Reading.{sheet_of}
 use Rattle.keys.specs.Held.{shot_fits}
@@ -9,8 +8,8 @@ use Rattle.points.specs.Again.{IsAgain}
 use Rattle.points.proofs.shots.shots_fit.Given as goal
 
 abbrev pub invariant-loop-k : goal.invariant-loop-k
-invariant-loop-k l = (l.k ≤ l.n)
-    × ((l.last ≡ last_stamp (sheet_of l.how l.s) l.k) × (IsAgain (sheet_of l.how l.s) l.k l.again × (fine ≡ run (up_to l.k (shot_fits (sheet_of l.how l.s))))))
-
-abbrev pub decreases-loop-k : goal.decreases-loop-k
-decreases-loop-k l = l.n - l.k
+invariant-loop-k l = record {
+  before : l.last ≡ last_stamp (sheet_of l.how l.s) l.k;
+  again : IsAgain (sheet_of l.how l.s) l.k l.again;
+  met : fine ≡ run (up_to l.k (shot_fits (sheet_of l.how l.s)));
+}
