@@ -33,18 +33,9 @@ module _ (l : List ℕ) (a : ℕ) (o : 1 ≤ a) where
   abbrev seconds_fit : Bool
   seconds_fit = between 0 59 (digits (cols l (a + 4) (a + 5)))
 
-  whole : (hours_fit && (minutes_fit && seconds_fit)) ≡ is_time (cols l a (a + 5))
+  pub time_is : is_time (cols l a (a + 5)) ≡ (hours_fit && (minutes_fit && seconds_fit))
   unfolding is_time
-  whole = rw (hours, minutes, seconds)
-
-  pub time_hours : hours_fit ≡ false → false ≡ is_time (cols l a (a + 5))
-  time_hours e = (rw e) ∙ whole
-
-  pub time_minutes : hours_fit ≡ true → minutes_fit ≡ false → false ≡ is_time (cols l a (a + 5))
-  time_minutes d e = (rw (d, e)) ∙ whole
-
-  pub time_seconds : hours_fit ≡ true → minutes_fit ≡ true → seconds_fit ≡ is_time (cols l a (a + 5))
-  time_seconds d e = (rw (d, e)) ∙ whole
+  time_is = rw (hours, minutes, seconds)
 
   -- the two columns of a code
   pub two_columns : cols l a (a + 1) ≡ get_or l (a - 1) 0 ∷ get_or l a 0 ∷ []

@@ -3,70 +3,62 @@ use Prim.Native.Nat.{ℕ, zero, suc, ◌+◌, ◌-◌, ◌^◌, ◌≤◌, ◌<�
 use native.Mathlib.Numerals.{add-one}
 use native.Mathlib.Omega.{arith}
 use mathlib.Core.Path.{◌≡◌, refl, sym, ap, ◌∙◌}
-use mathlib.Core.Bool.{Bool, true, false}
-use mathlib.Core.List.{List, [], ◌∷◌}
-use lib.Dec.{eqb, leb}
+use mathlib.Core.Bool.{Bool, true, false, ◌&&◌}
+use mathlib.Core.List.{List, ◌∷◌}
+use lib.Dec.{eqb, leb, ltb}
 use lib.ListN.{length, get_or, take}
-use borrow.Author.Tests.{le-leb, lt-leb, leb-true, leb-false, eq-eqb, ne_eqb}
+use borrow.Author.Tests.{le-leb, lt-leb, leb-true, leb-false, ltb-true, ltb-false, eq-eqb, ne_eqb}
 use Rattle.rules.proofs.Tests.{says}
 use Rattle.rules.proofs.Sizes.{Small, small_more}
 use Rattle.rules.specs.Places.{pick}
 use Rattle.rules.specs.Text.{col, cols}
-use Rattle.rules.specs.Numbers.{digit, Number, malformed, digits, justified, whole, negative, minus_or, signed, then, pointed, decimal, tenths, size}
+use Rattle.rules.specs.Numbers.{digit, Number, malformed, digits, justified, negative, minus_or, then, pointed, decimal, tenths, size}
 use Rattle.rules.proofs.Columns.{cols_end, cols_step, cols_length, cols_at, cols_take}
 use Rattle.std.specs.Prelude.{Option, None, Some}
 use Rattle.fields.specs.Paper.{number}
 use Rattle.fields.specs.declared.Number.{Number as Read}
 use Rattle.fields.specs.Ink.{ink_from, point_digit, tenths_of}
 
-pub ink_above : (c : ℕ) (bs : List ℕ) → c ≤ ink_from c bs
-unfolding ink_from pick
-ink_above c [] = omega arith
-ink_above c (b ∷ bs) = go (eqb b 32) (ink_above (suc c) bs)
-  where
-    go : (t : Bool) → suc c ≤ ink_from (suc c) bs → c ≤ pick t (ink_from (suc c) bs) c
-    go true h = omega arith
-    go false h = omega arith
-
 -- what stands after the blanks is what is read
-module _ (read : List ℕ → Number) (empty : malformed ≡ read []) (l : List ℕ) (b : ℕ) where
-  by_byte : (a : ℕ) (t : Bool) → 1 ≤ a → a ≤ b
-      → read (cols l (ink_from (suc a) (cols l (a + 1) b)) b) ≡ justified read (cols l (a + 1) b)
-      → read (cols l (pick t (ink_from (suc a) (cols l (a + 1) b)) a) b)
+module _ (read : List ℕ → Number) (l : List ℕ) (b : ℕ) where
+  abbrev found : Option ℕ → Number
+  found None = malformed
+  found (Some c) = read (cols l c b)
+
+  by_byte : (a : ℕ) (t : Bool) → 1 ≤ a → a ≤ b → found (ink_from (suc a) (cols l (a + 1) b)) ≡ justified read (cols l (a + 1) b)
+      → found (pick t (ink_from (suc a) (cols l (a + 1) b)) (Some a))
       ≡ pick t (justified read (cols l (a + 1) b)) (read (get_or l (a - 1) 0 ∷ cols l (a + 1) b))
   unfolding pick
   by_byte a true o q ih = ih
   by_byte a false o q ih = ap read (cols_step l a o b q)
 
   by_size : (a : ℕ) (t : Bool) → 1 ≤ a → leb a b ≡ t
-      → (a ≤ b → read (cols l (ink_from (suc a) (cols l (a + 1) b)) b) ≡ justified read (cols l (a + 1) b))
-      → read (cols l (ink_from a (cols l a b)) b) ≡ justified read (cols l a b)
+      → (a ≤ b → found (ink_from (suc a) (cols l (a + 1) b)) ≡ justified read (cols l (a + 1) b))
+      → found (ink_from a (cols l a b)) ≡ justified read (cols l a b)
   unfolding ink_from justified
   by_size a true o e ih =
       let q = leb-true a b e in
-      ap (λ (bs : List ℕ). read (cols l (ink_from a bs) b)) (cols_step l a o b q) ∙ by_byte a (eqb (get_or l (a - 1) 0) 32) o q (ih q)
+      ap (λ (bs : List ℕ). found (ink_from a bs)) (cols_step l a o b q) ∙ by_byte a (eqb (get_or l (a - 1) 0) 32) o q (ih q)
       ∙ ap (justified read) (sym (cols_step l a o b q))
   by_size a false o e ih =
       let q = cols_end l a o b (leb-false a b e) in
-      ap (λ (bs : List ℕ). read (cols l (ink_from a bs) b)) q ∙ ap read q ∙ sym empty ∙ ap (justified read) (sym q)
+      ap (λ (bs : List ℕ). found (ink_from a bs)) q ∙ ap (justified read) (sym q)
 
-  ink_from_lem : (d a : ℕ) → 1 ≤ a → b < a + d → read (cols l (ink_from a (cols l a b)) b) ≡ justified read (cols l a b)
+  ink_from_lem : (d a : ℕ) → 1 ≤ a → b < a + d → found (ink_from a (cols l a b)) ≡ justified read (cols l a b)
   ink_from_lem zero a o h = by_size a (leb a b) o refl (λ q. absurd (omega arith))
   ink_from_lem (suc d) a o h =
       by_size a (leb a b) o refl
-      (λ q.
-      ap (λ (m : ℕ). read (cols l (ink_from m (cols l (a + 1) b)) b)) (sym (add-one a))
-      ∙ ink_from_lem d (a + 1) (omega arith) (omega arith))
+      (λ q. ap (λ (m : ℕ). found (ink_from m (cols l (a + 1) b))) (sym (add-one a)) ∙ ink_from_lem d (a + 1) (omega arith) (omega arith))
 
-  pub ink_justified : (a : ℕ) → 1 ≤ a → read (cols l (ink_from a (cols l a b)) b) ≡ justified read (cols l a b)
-  ink_justified a o = ink_from_lem (suc b) a o (omega arith)
+  module _ (a : ℕ) (o : Option ℕ) (e : o ≡ ink_from a (cols l a b)) (f : 1 ≤ a) where
+    pub ink_none : o ≡ None → malformed ≡ justified read (cols l a b)
+    ink_none q = ap found (sym q ∙ e) ∙ ink_from_lem (suc b) a f (omega arith)
+
+    pub ink_some : (c : ℕ) → o ≡ Some c → read (cols l c b) ≡ justified read (cols l a b)
+    ink_some c q = ap found (sym q ∙ e) ∙ ink_from_lem (suc b) a f (omega arith)
 
 -- a minus or digits, at the column where the number begins
 module _ (l : List ℕ) (c b : ℕ) (o : 1 ≤ c) where
-  pub minus_none : b < c → malformed ≡ minus_or (cols l c b)
-  unfolding minus_or
-  minus_none h = rw (cols_end l c o b h)
-
   module _ (h : c ≤ b) where
     pub minus_some : get_or l (c - 1) 0 ≡ 45 → negative (digits (cols l (c + 1) b)) ≡ minus_or (cols l c b)
     unfolding minus_or pick
@@ -80,10 +72,6 @@ module _ (l : List ℕ) (c b : ℕ) (o : 1 ≤ c) where
 module _ (l : List ℕ) (a b : ℕ) (o : 1 ≤ a) where
   short : b ≤ a → leb 2 (length (cols l a b)) ≡ false
   short h = let n = cols_length l a o b in let z : length (cols l a b) < 2 = omega arith in lt-leb 2 (length (cols l a b)) z
-
-  pub pointed_short : b ≤ a → false ≡ pointed (cols l a b)
-  unfolding pointed
-  pointed_short h = rw (short h)
 
   module _ (h : a < b) where
     width : length (cols l a b) ≡ b + 1 - a
@@ -112,9 +100,14 @@ module _ (l : List ℕ) (a b : ℕ) (o : 1 ≤ a) where
         cols_take l a o b (length (cols l a b) - 2) (omega arith)
         ∙ ap (cols l a) (let z : a + (length (cols l a b) - 2) - 1 ≡ b - 2 = omega arith in z)
 
-    pub pointed_long : eqb (get_or l (b - 2) 0) 46 ≡ pointed (cols l a b)
-    unfolding pointed
-    pointed_long = rw (wide, before)
+-- the point, where there are two columns
+pub pointed_is : (l : List ℕ) (a b : ℕ) → 1 ≤ a → pointed (cols l a b) ≡ (ltb a b && eqb (get_or l (b - 2) 0) 46)
+unfolding pointed
+pointed_is l a b o = go (ltb a b) refl
+  where
+    go : (t : Bool) → ltb a b ≡ t → (leb 2 (length (cols l a b)) && eqb (get_or (cols l a b) (length (cols l a b) - 2) 0) 46) ≡ (t && eqb (get_or l (b - 2) 0) 46)
+    go true e = let h = ltb-true a b e in rw (wide l a b o h, before l a b o h)
+    go false e = rw (short l a b o (ltb-false a b e))
 
 -- a decimal, by its last two columns
 module _ (read : List ℕ → Number) (l : List ℕ) (a b : ℕ) (o : 1 ≤ a) where
@@ -158,19 +151,6 @@ decimal_none read l a b o h e =
 pub point_digit_is : (l : List ℕ) (b : ℕ) → point_digit l b ≡ true → (48 ≤ get_or l (b - 1) 0) × (get_or l (b - 1) 0 ≤ 57)
 unfolding point_digit digit
 point_digit_is l b e = (simp says at e).1
-
--- the same from what the code has in hand: the column c where the number begins
-module _ (l : List ℕ) (a b c : ℕ) (e : c ≡ ink_from a (cols l a b)) where
-  pub ink_low : a ≤ c
-  ink_low = let h = ink_above a (cols l a b) in omega arith
-
-  pub whole_after : (n : Number) → 1 ≤ a → n ≡ digits (cols l c b) → n ≡ whole (cols l a b)
-  unfolding whole digits
-  whole_after n o q = q ∙ ap (λ (m : ℕ). digits (cols l m b)) e ∙ ink_justified digits refl l b a o
-
-  pub signed_after : (n : Number) → 1 ≤ a → n ≡ minus_or (cols l c b) → n ≡ signed (cols l a b)
-  unfolding signed minus_or
-  signed_after n o q = q ∙ ap (λ (m : ℕ). minus_or (cols l m b)) e ∙ ink_justified minus_or refl l b a o
 
 module _ (l : List ℕ) (b : ℕ) (v : Number) (t : Bool) (q : t ≡ point_digit l b) where
   pub tenths_none : t ≡ false → malformed ≡ tenths_of l b v

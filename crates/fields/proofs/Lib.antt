@@ -10,3 +10,5 @@ pub mod LowHalves
 pub mod Ranked
 pub mod Rows
 pub mod One
+pub mod Chains
+pub mod Columns

@@ -1,81 +1,42 @@
 -- The rows of the families decide what a code is: one row takes the two bytes exactly where they are a code of the file.
---   rows_decide            = all ten rows
---   code_taken, code_none  = what the walk over the rows finds
-use Prim.Native.Nat.{ℕ, ◌+◌, ◌<◌}
-use native.Mathlib.Numerals.{add-one}
-use mathlib.Core.Path.{◌≡◌, refl, sym, ap, ◌∙◌}
-use mathlib.Core.Bool.{Bool, true, false, not, ◌&&◌, ◌||◌, and-true, and-false, or-true, or-false}
+use Prim.Native.Nat.{ℕ}
+use mathlib.Core.Path.{◌≡◌}
+use mathlib.Core.Bool.{Bool, true, false, not, ◌&&◌, ◌||◌, and-true, and-false, or-true}
 use mathlib.Core.List.{[], ◌∷◌}
 use lib.Dec.{eqb}
-use Rattle.rules.specs.Places.{pick, some}
+use Rattle.std.specs.List.{list_any}
+use Rattle.rules.specs.Places.{pick}
 use Rattle.rules.specs.Text.{col, same, bytes, one_of}
 use Rattle.rules.specs.Kinds.{digit1, family, is_code}
-use Rattle.rules.proofs.Tests.{some_is}
-use Rattle.fields.specs.Families.{family_at, followed_by, taken_by}
-use Rattle.fields.specs.declared.families.Family.{Family}
+use Rattle.fields.specs.Families.{families, taken_by}
 
-turned : (x p k : Bool) → ((x || p) || k) ≡ (p || (k || x))
-turned x true k = rw (or-true x)
-turned x false true = rw (or-false x, or-true x)
-turned x false false = rw (or-false x, or-false x)
+-- a row whose letter g stands in the file, before the rows of which x says the same; and one whose letter does not
+taken : (g d x p k y : Bool) → x ≡ (p || (k || (y && d))) → ((g && d) || x) ≡ (p || (k || ((g || y) && d)))
+taken true true x p k y e = rw (or-true k, or-true p)
+taken true false x p k y e = rw (and-false y) at e
+taken false d x p k y e = e
 
-three : (a b c : Bool) → ((a || b) || c) ≡ (a || (b || (c || false)))
-three true b c = refl
-three false true c = refl
-three false false c = sym (or-false c)
+passed : (g x z : Bool) → x ≡ z → ((g && false) || x) ≡ z
+passed g x z e = rw (and-false g) e
 
-five : (a b c d e : Bool) → ((((a || b) || c) || d) || e) ≡ (a || (b || (c || (d || (e || false)))))
-five true b c d e = refl
-five false true c d e = refl
-five false false true d e = refl
-five false false false d e = three false d e
+-- letters stand for whether the first byte is that letter, m and l for the second, d for a digit, i for whether the file is R
+module _ (g h r v e a w s p m k l d : Bool) where
+  last_two : ((p && m) || ((k && l) || false)) ≡ ((p && (m && true)) || ((k && (l && true)) || false))
+  last_two = rw (and-true m, and-true l)
 
--- a row by whether the file is R
-abbrev taken : Bool → ℕ → ℕ → Family → Bool
-taken r b d w = eqb b w.0 && (pick r (not (eqb w.2 2)) (not (eqb w.2 1)) && followed_by w d)
+  rows : (i : Bool) → ((g && (i && d)) || ((h && (i && d)) || ((r && (i && d)) || ((v && (not i && d)) || ((e && (not i && d)) || ((a && (not i && d))
+      || ((w && (not i && d)) || ((s && (not i && d)) || ((p && m) || ((k && l) || false))))))))))
+      ≡ ((p && (m && true)) || ((k && (l && true)) || (pick i (g || (h || (r || false))) (v || (e || (a || (w || (s || false))))) && d)))
+  unfolding pick
+  rows true =
+      taken g d _ _ _ _ (taken h d _ _ _ _ (taken r d _ _ _ _
+      (passed v _ _ (passed e _ _ (passed a _ _ (passed w _ _ (passed s _ _ last_two)))))))
+  rows false =
+      passed g _ _ (passed h _ _ (passed r _ _
+      (taken v d _ _ _ _ (taken e d _ _ _ _ (taken a d _ _ _ _ (taken w d _ _ _ _ (taken s d _ _ _ _ last_two)))))))
 
-abbrev coded : Bool → ℕ → ℕ → Bool
-coded r b d =
-    same (b ∷ d ∷ []) (bytes "PM") || (same (b ∷ d ∷ []) (bytes "KL") || (pick r (one_of "GHR" b) (one_of "VEAWS" b) && digit1 d))
-
--- letters stand for whether the first byte is that letter, m and l for the second, d for a digit
-module _ (g h r v e a w s p m k l : Bool) where
-  in_r : (d : Bool) → ((((((((((g && d) || (h && d)) || (r && d)) || (v && false)) || (e && false)) || (a && false)) || (w && false)) || (s && false))
-      || (p && m)) || (k && l)) ≡ ((p && (m && true)) || ((k && (l && true)) || ((g || (h || (r || false))) && d)))
-  in_r true =
-      simp (and-true, and-false, or-false)
-      (turned ((g || h) || r) (p && m) (k && l) ∙ ap (λ (x : Bool). (p && m) || ((k && l) || x)) (three g h r ∙ ap (λ (x : Bool). g || (h || x)) (or-false r)))
-  in_r false = simp (and-true, and-false, or-false) refl
-
-  in_s : (d : Bool) → ((((((((((g && false) || (h && false)) || (r && false)) || (v && d)) || (e && d)) || (a && d)) || (w && d)) || (s && d))
-      || (p && m)) || (k && l)) ≡ ((p && (m && true)) || ((k && (l && true)) || ((v || (e || (a || (w || (s || false))))) && d)))
-  in_s true =
-      simp (and-true, and-false, or-false)
-      (turned ((((v || e) || a) || w) || s) (p && m) (k && l) ∙ ap (λ (x : Bool). (p && m) || ((k && l) || x))
-      (five v e a w s ∙ ap (λ (x : Bool). v || (e || (a || (w || x)))) (or-false s)))
-  in_s false = simp (and-true, and-false, or-false) refl
-
-module _ (b d : ℕ) where
-  decided : (r : Bool) → some 10 (λ k. taken r b d (family_at k)) ≡ coded r b d
-  unfolding some pick same bytes one_of
-  decided true = in_r (eqb b 71) (eqb b 72) (eqb b 82) (eqb b 86) (eqb b 69) (eqb b 65) (eqb b 87) (eqb b 83) (eqb b 80) (eqb d 77) (eqb b 75) (eqb d 76)
-      (digit1 d)
-  decided false = in_s (eqb b 71) (eqb b 72) (eqb b 82) (eqb b 86) (eqb b 69) (eqb b 65) (eqb b 87) (eqb b 83) (eqb b 80) (eqb d 77) (eqb b 75) (eqb d 76)
-      (digit1 d)
-
-  pub rows_decide : (i : ℕ) → some 10 (λ k. taken_by i b d (family_at k)) ≡ is_code i (b ∷ d ∷ [])
-  unfolding is_code family col
-  rows_decide i = decided (eqb i 1)
-
-  -- the walk: row j takes them, or none does
-  module _ (i : ℕ) where
-    pub code_taken : (j : ℕ) → j < 10 → (t : Bool) → t ≡ taken_by i b d (family_at j) → t ≡ true → true ≡ is_code i (b ∷ d ∷ [])
-    code_taken j h t e y = sym ((some_is 10 (λ k. taken_by i b d (family_at k))).1 (j, h, sym e ∙ y)) ∙ rows_decide i
-
-    pub code_none : (j : ℕ) → j ≡ 10 → some j (λ k. taken_by i b d (family_at k)) ≡ false → false ≡ is_code i (b ∷ d ∷ [])
-    code_none j z e = sym (ap (λ (n : ℕ). some n (λ k. taken_by i b d (family_at k))) (sym z) ∙ e) ∙ rows_decide i
-
-    pub none_more : (j : ℕ) → some j (λ k. taken_by i b d (family_at k)) ≡ false → (t : Bool) → t ≡ taken_by i b d (family_at j) → t ≡ false
-        → some (j + 1) (λ k. taken_by i b d (family_at k)) ≡ false
-    unfolding some
-    none_more j e t f n = rw (add-one j, e) (sym f ∙ n)
+pub rows_decide : (i b d : ℕ) → list_any (taken_by i b d) families ≡ is_code i (b ∷ d ∷ [])
+unfolding is_code family col same bytes one_of
+rows_decide i b d =
+    rows (eqb b 71) (eqb b 72) (eqb b 82) (eqb b 86) (eqb b 69) (eqb b 65) (eqb b 87) (eqb b 83) (eqb b 80) (eqb d 77) (eqb b 75) (eqb d 76) (digit1 d)
+    (eqb i 1)

@@ -3,16 +3,19 @@ use Prim.Native.Nat.{ℕ, suc, ◌+◌, ◌-◌, ◌*◌, ◌^◌, ◌≤◌, �
 use native.Mathlib.Nat.{pow-suc, one-le-pow, pow-le-pow_right, le_trans}
 use native.Mathlib.Numerals.{add-one}
 use native.Mathlib.Omega.{arith}
-use mathlib.Core.Path.{◌≡◌, ap, ◌∙◌}
-use mathlib.Core.Bool.{Bool, true, false}
+use mathlib.Core.Path.{◌≡◌, sym, ap, ◌∙◌}
+use Rattle.std.specs.Prelude.{Option, None, Some}
+use Rattle.std.specs.Char.{is_ascii_digit}
+use mathlib.Core.Bool.{Bool, true, false, ◌&&◌}
 use mathlib.Core.List.{List}
 use lib.ListN.{get_or}
-use borrow.Author.Tests.{le-leb, lt-leb, eq-eqb, ne_eqb}
+use Rattle.rules.proofs.Tests.{says}
+use lib.Dec.{leb}
+use borrow.Author.Tests.{eq-eqb, ne_eqb}
 use Rattle.rules.specs.Places.{pick}
-use Rattle.rules.specs.Text.{cols, blank}
+use Rattle.rules.specs.Text.{cols}
 use Rattle.rules.specs.Numbers.{digit, Number, malformed, plus, digits_after, digits}
 use Rattle.rules.proofs.Columns.{cols_end, cols_step}
-use Rattle.rules.specs.Kinds.{all_digits}
 use Rattle.fields.specs.Ink.{ink_from}
 use Rattle.fields.specs.Packed.{packed_after}
 
@@ -39,13 +42,13 @@ pub cap : {v : ℕ} (i : ℕ) → v < 10 ^ i → i ≤ 16 → v < 10 ^ 16
 cap i hv hi = le_trans hv (pow-le-pow_right (omega arith) hi)
 
 module _ (l : List ℕ) (c b : ℕ) (o : 1 ≤ c) where
-  module _ (X : ℕ) (e : ink_from c (cols l c b) ≡ X) where
-    pub ink_end : b < c → c ≡ X
+  module _ (X : Option ℕ) (e : ink_from c (cols l c b) ≡ X) where
+    pub ink_end : b < c → None ≡ X
     unfolding ink_from
     ink_end h = (rw (cols_end l c o b h)) ∙ e
 
     module _ (h : c ≤ b) where
-      pub ink_stop : (get_or l (c - 1) 0 ≡ 32 → ⊥) → c ≡ X
+      pub ink_stop : (get_or l (c - 1) 0 ≡ 32 → ⊥) → Some c ≡ X
       unfolding ink_from pick
       ink_stop q = (rw (cols_step l c o b h, ne_eqb _ _ q)) ∙ e
 
@@ -58,19 +61,20 @@ module _ (l : List ℕ) (c b : ℕ) (o : 1 ≤ c) where
     unfolding digits_after
     digits_end h = (rw (cols_end l c o b h)) ∙ e
 
-    module _ (h : c ≤ b) where
-      pub digits_low : get_or l (c - 1) 0 < 48 → malformed ≡ X
+    module _ (h : c ≤ b) (t : Bool) (q : t ≡ is_ascii_digit (get_or l (c - 1) 0)) where
+      pub digits_stop : t ≡ false → malformed ≡ X
       unfolding digits_after digit pick
-      digits_low q = (rw (cols_step l c o b h, lt-leb _ _ q)) ∙ e
+      digits_stop n = (rw (cols_step l c o b h, sym q ∙ n)) ∙ e
 
-      pub digits_high : 48 ≤ get_or l (c - 1) 0 → 57 < get_or l (c - 1) 0 → malformed ≡ X
+      pub digits_step : (d : ℕ) → t ≡ true → d ≡ get_or l (c - 1) 0 - 48 → digits_after (10 * v + d) (cols l (c + 1) b) ≡ X
       unfolding digits_after digit pick
-      digits_high p q = (rw (cols_step l c o b h, le-leb _ _ p, lt-leb _ _ q)) ∙ e
+      digits_step d y r = rw r ((rw (cols_step l c o b h, sym q ∙ y)) ∙ e)
 
-      pub digits_step : (d : ℕ) → 48 ≤ get_or l (c - 1) 0 → get_or l (c - 1) 0 ≤ 57 → d ≡ get_or l (c - 1) 0 - 48
-          → digits_after (10 * v + d) (cols l (c + 1) b) ≡ X
-      unfolding digits_after digit pick
-      digits_step d p q r = rw r ((rw (cols_step l c o b h, le-leb _ _ p, le-leb _ _ q)) ∙ e)
+pub digit_value : (b d : ℕ) (t : Bool) → t ≡ is_ascii_digit b → t ≡ true → d ≡ b - 48 → d ≤ 9
+digit_value b d t q y r =
+    let e : (leb 48 b && leb b 57) ≡ true = sym q ∙ y in
+    let h = simp says at e in
+    omega arith
 
 pub digits_none : (l : List ℕ) (a b : ℕ) → 1 ≤ a → b < a → malformed ≡ digits (cols l a b)
 unfolding digits
@@ -79,39 +83,6 @@ digits_none l a b o h = rw (cols_end l a o b h)
 pub digits_some : (l : List ℕ) (a b : ℕ) → 1 ≤ a → a ≤ b → digits_after 0 (cols l a b) ≡ digits (cols l a b)
 unfolding digits
 digits_some l a b o h = rw (cols_step l a o b h)
-
--- blanks alone, digits alone
-module _ (l : List ℕ) (c b : ℕ) (o : 1 ≤ c) (X : Bool) where
-  module _ (e : blank (cols l c b) ≡ X) where
-    pub blank_end : b < c → true ≡ X
-    unfolding blank
-    blank_end h = (rw (cols_end l c o b h)) ∙ e
-
-    pub blank_stop : c ≤ b → (get_or l (c - 1) 0 ≡ 32 → ⊥) → false ≡ X
-    unfolding blank
-    blank_stop h q = (rw (cols_step l c o b h, ne_eqb _ _ q)) ∙ e
-
-    pub blank_step : c ≤ b → get_or l (c - 1) 0 ≡ 32 → blank (cols l (c + 1) b) ≡ X
-    unfolding blank
-    blank_step h q = (rw (cols_step l c o b h, eq-eqb _ _ q)) ∙ e
-
-  module _ (e : all_digits (cols l c b) ≡ X) where
-    pub all_end : b < c → true ≡ X
-    unfolding all_digits
-    all_end h = (rw (cols_end l c o b h)) ∙ e
-
-    module _ (h : c ≤ b) where
-      pub all_low : get_or l (c - 1) 0 < 48 → false ≡ X
-      unfolding all_digits digit
-      all_low q = (rw (cols_step l c o b h, lt-leb _ _ q)) ∙ e
-
-      pub all_high : 48 ≤ get_or l (c - 1) 0 → 57 < get_or l (c - 1) 0 → false ≡ X
-      unfolding all_digits digit
-      all_high p q = (rw (cols_step l c o b h, le-leb _ _ p, lt-leb _ _ q)) ∙ e
-
-      pub all_step : 48 ≤ get_or l (c - 1) 0 → get_or l (c - 1) 0 ≤ 57 → all_digits (cols l (c + 1) b) ≡ X
-      unfolding all_digits digit
-      all_step p q = (rw (cols_step l c o b h, le-leb _ _ p, le-leb _ _ q)) ∙ e
 
 -- columns as one number to the base 256
 module _ (l : List ℕ) (c b : ℕ) (o : 1 ≤ c) (v X : ℕ) (e : packed_after v (cols l c b) ≡ X) where

@@ -1,93 +1,87 @@
 // The codes of points: one row a family, in the order of the standard's lists at H600 and H700.
-ghost use Rattle.std.specs.Prelude.{◌≡◌, [], ◌∷◌, ◌<◌};
+ghost use Rattle.std.specs.Prelude.{◌≡◌, [], ◌∷◌};
+ghost use Rattle.std.specs.List.{list_any};
 ghost use Rattle.rules.specs.Kinds.{is_code, digit1 as is_digit1};
-ghost use Rattle.fields.specs.Families.{family_at, stands_in, followed_by, taken_by};
+ghost use Rattle.fields.specs.Families.{families, stands_in, followed_by, taken_by};
 
-// The files of a family: R, S, or both.
-const RECEIVERS: u8 = 1;
-
-const SOURCES: u8 = 2;
-
-const BOTH: u8 = 3;
-
-// After the letter a digit 1-9, where no second letter is named.
-const DIGIT: u8 = 0;
-
-// A family of codes: its letter, what follows the letter, and the files in which it may stand.
-#[derive(Clone, Copy)]
-pub struct Family(pub u8, pub u8, pub u8);
-
-const FAMILIES: [Family; 10] = [
-    Family(b'G', DIGIT, RECEIVERS), // geophones
-    Family(b'H', DIGIT, RECEIVERS), // hydrophones
-    Family(b'R', DIGIT, RECEIVERS), // multi-component and other receivers
-    Family(b'V', DIGIT, SOURCES), // vibroseis
-    Family(b'E', DIGIT, SOURCES), // explosive
-    Family(b'A', DIGIT, SOURCES), // air gun
-    Family(b'W', DIGIT, SOURCES), // water gun
-    Family(b'S', DIGIT, SOURCES), // other sources
-    Family(b'P', b'M', BOTH), // permanent marker
-    Family(b'K', b'L', BOTH), // killed or omitted
-];
-
-// Row j of the table.
-fn row_of(j: usize) -> Family
-    requires { j < 10 }
-    ensures value { result ≡ family_at j }
-{
-    FAMILIES[j]
+// What follows a family's letter: a digit 1-9, or a second letter.
+#[derive(Clone, Copy, Debug, PartialEq, Eq)]
+pub enum Second {
+    Digit,
+    Letter(u8),
 }
 
-// The family may stand in file i: R 1, S any other.
-fn stands_in(w: Family, i: u8) -> bool
-    ensures value { result ≡ stands_in w i }
+// The files in which a family may stand.
+#[derive(Clone, Copy, Debug, PartialEq, Eq)]
+pub enum Files {
+    Receivers,
+    Sources,
+    Both,
+}
+
+// A family of codes: its letter, what follows it, and its files.
+#[derive(Clone, Copy, Debug, PartialEq, Eq)]
+pub struct Family(pub u8, pub Second, pub Files);
+
+const FAMILIES: [Family; 10] = [
+    Family(b'G', Second::Digit, Files::Receivers), // geophones
+    Family(b'H', Second::Digit, Files::Receivers), // hydrophones
+    Family(b'R', Second::Digit, Files::Receivers), // multi-component and other receivers
+    Family(b'V', Second::Digit, Files::Sources), // vibroseis
+    Family(b'E', Second::Digit, Files::Sources), // explosive
+    Family(b'A', Second::Digit, Files::Sources), // air gun
+    Family(b'W', Second::Digit, Files::Sources), // water gun
+    Family(b'S', Second::Digit, Files::Sources), // other sources
+    Family(b'P', Second::Letter(b'M'), Files::Both), // permanent marker
+    Family(b'K', Second::Letter(b'L'), Files::Both), // killed or omitted
+];
+
+// A family of these files may stand in file i: R 1, S any other.
+fn stands_in(files: Files, i: u8) -> bool
+    ensures value { result ≡ stands_in files i }
 {
-    if i == 1 {
-        return w.2 != SOURCES;
+    match files {
+        Files::Receivers => i == 1,
+        Files::Sources => i != 1,
+        Files::Both => true,
     }
-    w.2 != RECEIVERS
 }
 
 // A digit 1-9.
+#[tactic(auto, unfolding(rules::specs::Kinds::digit1))]
 pub fn digit1(b: u8) -> bool
     ensures value { result ≡ is_digit1 b }
 {
     49 <= b && b <= 57
 }
 
-// The byte d may follow the family's letter.
-fn followed_by(w: Family, d: u8) -> bool
-    ensures value { result ≡ followed_by w d }
+// The byte d is what follows the letter.
+fn followed_by(second: Second, d: u8) -> bool
+    ensures value { result ≡ followed_by second d }
 {
-    if w.1 == DIGIT {
-        return digit1(d);
+    match second {
+        Second::Digit => digit1(d),
+        Second::Letter(x) => d == x,
     }
-    d == w.1
 }
 
 // The bytes b and d are a code of the family, in file i.
 fn is_of(w: Family, i: u8, b: u8, d: u8) -> bool
     ensures value { result ≡ taken_by i b d w }
 {
-    if b != w.0 {
-        return false;
-    }
-    if !stands_in(w, i) {
-        return false;
-    }
-    followed_by(w, d)
+    let Family(letter, second, files) = w;
+    b == letter && stands_in(files, i) && followed_by(second, d)
+}
+
+fn any_takes(i: u8, b: u8, d: u8) -> bool
+    ensures value { result ≡ list_any (taken_by i b d) families }
+{
+    FAMILIES.iter().any(|w| is_of(*w, i, b, d))
 }
 
 // The bytes b and d are a code of file i: a code of one of the families.
 pub fn is_code(i: u8, b: u8, d: u8) -> bool
     ensures value { result ≡ is_code i (b ∷ d ∷ []) }
 {
-    let mut j = 0;
-    while j < 10 {
-        if is_of(row_of(j), i, b, d) {
-            return true;
-        }
-        j += 1;
-    }
-    false
+    any_takes(i, b, d)
 }

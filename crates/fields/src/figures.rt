@@ -7,7 +7,7 @@ ghost use Rattle.fields.specs.Figures.{figures, low_index};
 fn low(b: u8) -> u64
     ensures value { result ≡ b % 16 }
 {
-    (b % 16) as u64
+    u64::from(b % 16)
 }
 
 // The number in columns a to b, at most 8.
@@ -17,10 +17,8 @@ pub fn number(l: &[u8; 80], a: usize, b: usize) -> u64
     ensures small { result < 4294967296 }
 {
     let mut v: u64 = 0;
-    let mut c = a;
-    while c <= b {
+    for c in a..b + 1 {
         v = 10 * v + low(l[c - 1]);
-        c += 1;
     }
     v
 }

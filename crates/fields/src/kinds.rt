@@ -1,18 +1,26 @@
 // The rules of fields, one function a rule, over the columns and the rule's own numbers.
 ghost use Rattle.std.specs.Prelude.{◌≡◌, ◌||◌, ℕ, ◌+◌, ◌≤◌, ◌<◌, eqb};
+ghost use Rattle.std.specs.List.{list_all};
+ghost use Rattle.std.specs.Char.{is_ascii_digit};
 ghost use Rattle.rules.specs.Text.{cols};
 ghost use Rattle.rules.specs.Kinds.{fits as fits_kind, digit1 as is_digit1};
 ghost use Rattle.rules.specs.Kinds.{starts_non_blank, digits_only, coordinate as a_coordinate, index as an_index, water_depth, time as a_time};
 ghost use Rattle.rules.specs.Kinds.{whole_number, signed_number, signed_decimal, decimal_number, code as a_code};
 
-use crate::{families, numbers, ranges};
+use crate::{bytes, families, numbers, ranges};
 
 // The first column, a, is not blank.
 pub fn starts_non_blank(l: &[u8; 80], a: usize) -> bool
     requires { (1 ≤ a) × (a ≤ 80) }
     ensures value { (b : ℕ) → a ≤ b → result ≡ fits_kind starts_non_blank (cols l.now a b) }
 {
-    l[a - 1] != 32
+    l[a - 1] != b' '
+}
+
+fn all_digits(columns: &[u8]) -> bool
+    ensures value { result ≡ list_all is_ascii_digit columns.now }
+{
+    columns.iter().all(|d| d.is_ascii_digit())
 }
 
 // Digits alone.
@@ -20,18 +28,7 @@ pub fn digits_only(l: &[u8; 80], a: usize, b: usize) -> bool
     requires { (1 ≤ a) × (b ≤ 80) }
     ensures value { result ≡ fits_kind digits_only (cols l.now a b) }
 {
-    let mut c = a;
-    while c <= b {
-        let d = l[c - 1];
-        if d < 48 {
-            return false;
-        }
-        if 57 < d {
-            return false;
-        }
-        c += 1;
-    }
-    true
+    all_digits(bytes::columns(l, a, b))
 }
 
 // A decimal with no range but its columns.
@@ -46,10 +43,7 @@ pub fn coordinate(l: &[u8; 80], a: usize, b: usize) -> bool
 fn index_byte(b: u8) -> bool
     ensures value { result ≡ (eqb b 32 || is_digit1 b) }
 {
-    if b == 32 {
-        return true;
-    }
-    families::digit1(b)
+    b == b' ' || families::digit1(b)
 }
 
 // An index in column a: 1-9, or blank.
@@ -73,13 +67,9 @@ pub fn time(l: &[u8; 80], a: usize) -> bool
     requires { (1 ≤ a) × (a ≤ 75) }
     ensures value { result ≡ fits_kind a_time (cols l.now a (a + 5)) }
 {
-    if !ranges::between(0, 23, numbers::digits(l, a, a + 1)) {
-        return false;
-    }
-    if !ranges::between(0, 59, numbers::digits(l, a + 2, a + 3)) {
-        return false;
-    }
-    ranges::between(0, 59, numbers::digits(l, a + 4, a + 5))
+    ranges::between(0, 23, numbers::digits(l, a, a + 1))
+        && ranges::between(0, 59, numbers::digits(l, a + 2, a + 3))
+        && ranges::between(0, 59, numbers::digits(l, a + 4, a + 5))
 }
 
 // A whole number, m to n.

@@ -6,23 +6,14 @@ ghost use Rattle.fields.specs.Packed.{packed, name_of};
 
 use crate::Name;
 
-fn wide(b: u8) -> u64
-    ensures value { result ≡ b }
-    ensures small { result < 256 }
-{
-    b as u64
-}
-
 // Columns a to b, at most 8, as one number.
 pub fn pack(l: &[u8; 80], a: usize, b: usize) -> u64
     requires { (1 ≤ a) × ((b ≤ 80) × (b < a + 8)) }
     ensures value { result ≡ packed (cols l.now a b) }
 {
     let mut v: u64 = 0;
-    let mut c = a;
-    while c <= b {
-        v = 256 * v + wide(l[c - 1]);
-        c += 1;
+    for c in a..b + 1 {
+        v = 256 * v + u64::from(l[c - 1]);
     }
     v
 }

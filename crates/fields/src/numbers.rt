@@ -1,5 +1,6 @@
 // Numbers right justified in columns a to b: blanks, an optional minus, digits, and in one spelling of a decimal a point and one digit.
 ghost use Rattle.std.specs.Prelude.{◌≡◌, ℕ, ◌+◌, ◌^◌, ◌≤◌, ◌<◌, true, Some};
+ghost use Rattle.std.specs.Option.{IfSome};
 ghost use Rattle.rules.specs.Text.{cols};
 ghost use Rattle.rules.specs.Numbers.{digits as digits_of, whole as whole_of, signed as signed_of, decimal as decimal_of, then as then_of};
 ghost use Rattle.rules.specs.Numbers.{pointed as pointed_in, tenths as spelled_of};
@@ -10,19 +11,18 @@ ghost use Rattle.fields.specs.Ink.{ink_from, point_digit, tenths_of};
 
 use crate::{Number, ranges};
 
-// The first column that is not blank, or the column after the last.
-fn ink(l: &[u8; 80], a: usize, b: usize) -> usize
+// The first column that is not blank.
+fn ink(l: &[u8; 80], a: usize, b: usize) -> Option<usize>
     requires { (1 ≤ a) × (b ≤ 80) }
     ensures value { result ≡ ink_from a (cols l.now a b) }
+    ensures within { IfSome result (λ c. (a ≤ c) × (c ≤ b)) }
 {
-    let mut c = a;
-    while c <= b {
-        if l[c - 1] != 32 {
-            return c;
+    for c in a..b + 1 {
+        if l[c - 1] != b' ' {
+            return Some(c);
         }
-        c += 1;
     }
-    c
+    None
 }
 
 // Digits to the last column, at least one.
@@ -34,17 +34,12 @@ pub fn digits(l: &[u8; 80], a: usize, b: usize) -> Option<Number>
         return None;
     }
     let mut v: u64 = 0;
-    let mut c = a;
-    while c <= b {
+    for c in a..b + 1 {
         let d = l[c - 1];
-        if d < 48 {
+        if !d.is_ascii_digit() {
             return None;
         }
-        if 57 < d {
-            return None;
-        }
-        v = 10 * v + u64::from(d - 48);
-        c += 1;
+        v = 10 * v + u64::from(d - b'0');
     }
     Some(Number::Plus(v))
 }
@@ -54,8 +49,7 @@ pub fn whole(l: &[u8; 80], a: usize, b: usize) -> Option<Number>
     requires { (1 ≤ a) × ((b ≤ 80) × (b < a + 16)) }
     ensures value { number result ≡ whole_of (cols l.now a b) }
 {
-    let c = ink(l, a, b);
-    digits(l, c, b)
+    digits(l, ink(l, a, b)?, b)
 }
 
 // With a minus before it, where it has none.
@@ -74,11 +68,8 @@ pub fn signed(l: &[u8; 80], a: usize, b: usize) -> Option<Number>
     requires { (1 ≤ a) × ((b ≤ 80) × (b < a + 16)) }
     ensures value { number result ≡ signed_of (cols l.now a b) }
 {
-    let c = ink(l, a, b);
-    if b < c {
-        return None;
-    }
-    if l[c - 1] == 45 {
+    let c = ink(l, a, b)?;
+    if l[c - 1] == b'-' {
         return negative(digits(l, c + 1, b)?);
     }
     digits(l, c, b)
@@ -97,15 +88,12 @@ fn then(n: Number, d: u8) -> Number
 }
 
 // A point in the last column but one, and a digit in the last, b.
+#[tactic(auto, unfolding(crate::specs::Ink::point_digit, rules::specs::Numbers::digit))]
 fn point_digit(l: &[u8; 80], b: usize) -> bool
     requires { (2 ≤ b) × (b ≤ 80) }
     ensures value { result ≡ point_digit l.now b }
 {
-    if l[b - 2] != 46 {
-        return false;
-    }
-    let d = l[b - 1];
-    48 <= d && d <= 57
+    l[b - 2] == b'.' && l[b - 1].is_ascii_digit()
 }
 
 // The number n before the point, and the digit after it.
@@ -116,7 +104,7 @@ fn tenths(l: &[u8; 80], b: usize, n: Number) -> Option<Number>
     if !point_digit(l, b) {
         return None;
     }
-    Some(then(n, l[b - 1] - 48))
+    Some(then(n, l[b - 1] - b'0'))
 }
 
 // A number, a point and one digit, in tenths.
@@ -146,10 +134,7 @@ fn is_pointed(l: &[u8; 80], a: usize, b: usize) -> bool
     requires { (1 ≤ a) × (b ≤ 80) }
     ensures value { result ≡ pointed_in (cols l.now a b) }
 {
-    if b <= a {
-        return false;
-    }
-    l[b - 2] == 46
+    a < b && l[b - 2] == b'.'
 }
 
 // A decimal that has no sign, in tenths: with a point and one digit after it, or digits alone, which count tenths.

@@ -1,35 +1,23 @@
 -- What `fields::names::pack` leaves to show.
-use Rattle.fields.proofs.Walks.{byte_more, eight, none, packed_end, packed_step}
 use mathlib.Core.Path.{refl}
-use borrow.Author.Rules.{rules}
 use native.Mathlib.Omega.{arith}
+use Rattle.fields.proofs.Walks.{byte_more, eight, none, packed_end, packed_step}
 use Rattle.fields.proofs.names.pack.Goals as goal
 
 pub loop-c-init : goal.loop-c-init
-loop-c-init c = (omega arith, (omega arith, (none 256 _ (omega arith), refl)))
+loop-c-init c = record { small = none 256 _ (omega arith); read = refl }
 
 pub overflow_mul-v : goal.overflow_mul-v
-overflow_mul-v c = let h = eight _ c.loop-c.invariant.1.1.0 (omega arith) in omega arith
+overflow_mul-v c = let h = eight _ c.loop-c.invariant.small (omega arith) in omega arith
 
 pub overflow_add-v : goal.overflow_add-v
-overflow_add-v c = let at = c.loop-c in
-    let a = c.args in
-    let h = eight _ at.invariant.1.1.0 (omega arith) in
-    let w = c.wide.ensures in
-    omega arith
+overflow_add-v c = let h = eight _ c.loop-c.invariant.small (omega arith) in omega (arith, c.from.ensures)
 
 pub loop-c-preserved : goal.loop-c-preserved
-loop-c-preserved c = let at = c.loop-c in
-    let a = c.args in (
-      omega arith,
-      (
-        omega arith,
-        (
-          byte_more a.a at.c at.invariant.1.0 at.invariant.1.1.0 c.wide.ensures.small,
-          packed_step _ _ _ at.invariant.0 _ _ at.invariant.1.1.1 _ (omega arith) c.wide.ensures.value,
-        ),
-      ),
-    )
+loop-c-preserved c = record {
+  small = byte_more c.args.a _ (omega arith) c.loop-c.invariant.small (omega (arith, c.from.ensures));
+  read = packed_step _ _ _ (omega arith) _ _ c.loop-c.invariant.read _ (omega arith) c.from.ensures;
+}
 
 pub returns : goal.returns
-returns c = record { value = search (rules, packed_end) }
+returns c = record { value = packed_end _ _ _ (omega arith) _ _ c.loop-c.invariant.read (omega arith) }
