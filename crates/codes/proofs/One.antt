@@ -16,7 +16,7 @@ use Rattle.codes.proofs.tables.place.Reads as place_reads
 use Rattle.codes.specs.contracts.tables.named_by as NamedBy
 use Rattle.codes.proofs.tables.named_by.Reads as named_by_reads
 
-one_line : (o q : Option ℕ) → IfSome o (λ k. 1 ≤ k) → IfSome q (λ k. 1 ≤ k) → line_or o ≡ line_or q → o ≡ q
+pub one_line : (o q : Option ℕ) → IfSome o (λ k. 1 ≤ k) → IfSome q (λ k. 1 ≤ k) → line_or o ≡ line_or q → o ≡ q
 one_line (Some k) (Some n) g h e = ap Some e
 one_line (Some k) None g h e = absurd (omega arith)
 one_line None (Some n) g h e = absurd (omega arith)
