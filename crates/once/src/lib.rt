@@ -29,8 +29,7 @@ const PAIRS: usize = 8;
 pub fn clear(t: &mut [u32])
     ensures written { Below t.new 1 × (length t.new ≡ length t.old) }
 {
-    let n = t.len();
-    marks::mark(t, 0, n, 0);
+    t.fill(0);
 }
 
 // What line k covers.
@@ -57,12 +56,10 @@ fn pairs_apart(how: Reading, x: &[u8], k: usize, start: usize) -> bool
     requires { Known 3 (sheet_of how x.now) × Lines (sheet_of how x.now) start k }
     ensures value { result ≡ apart (sheet_of how x.now) start k }
 {
-    let mut j = start;
-    while j < k {
+    for j in start..k {
         if lines_meet(how, x, k, j) {
             return false;
         }
-        j += 1;
     }
     true
 }
@@ -108,10 +105,8 @@ fn mark_lines(how: Reading, r: &[u8], o: &[u32], x: &[u8], start: usize, k: usiz
     ensures size { length t.new ≡ length t.old }
 {
     let v = mark_of(start);
-    let mut i = start;
-    while i <= k {
+    for i in start..=k {
         mark_line(how, r, o, x, i, v, t);
-        i += 1;
     }
 }
 
@@ -136,12 +131,12 @@ pub fn covered_once(
         if k + 1 - start == PAIRS {
             mark_lines(how, r, o, x, start, k, t);
         }
-        return Verdict::Fine;
+        return Ok(());
     }
     let v = mark_of(start);
     if is_covered(how, r, o, x, k, v, t) {
         return lines::at_line(19, 3, k, 64);
     }
     mark_line(how, r, o, x, k, v, t);
-    Verdict::Fine
+    Ok(())
 }

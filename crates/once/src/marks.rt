@@ -9,27 +9,19 @@ pub fn is_marked(t: &[u32], lo: usize, hi: usize, v: u32) -> bool
     requires { hi ≤ length t.now }
     ensures value { result ≡ some hi (λ e. leb lo e && eqb (nth t.now e) v) }
 {
-    let mut n: u32 = 0;
-    let mut e = lo;
-    while e < hi {
-        if t[e] == v {
-            n = 1;
-            e += 1;
-        } else {
-            e += 1;
-        }
+    let mut found = false;
+    for e in lo..hi {
+        found |= t[e] == v;
     }
-    n != 0
+    found
 }
 
-// Puts v at the places from lo on and before hi.
+// Puts v at the places from lo on and before hi; there are none where hi is below lo, so no part of t is cut out and filled.
 pub fn mark(t: &mut [u32], lo: usize, hi: usize, v: u32)
     requires { hi ≤ length t.old }
     ensures written { Spanned lo hi v t.old t.new }
 {
-    let mut e = lo;
-    while e < hi {
+    for e in lo..hi {
         t[e] = v;
-        e += 1;
     }
 }
