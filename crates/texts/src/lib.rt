@@ -19,12 +19,8 @@ pub fn fill(b: u8, k: usize, out: &mut [u8], n: usize) -> usize
     requires { n + k ≤ length out.old }
     ensures added { Adds out.old n (replicate k b) out.new result }
 {
-    let mut i = 0;
-    while i < k {
-        byte(b, out, n + i);
-        i += 1;
-    }
-    n + i
+    out[n..n + k].fill(b);
+    n + k
 }
 
 // Adds a part.
@@ -32,12 +28,8 @@ pub fn add(p: &[u8], out: &mut [u8], n: usize) -> usize
     requires { n + length p.now ≤ length out.old }
     ensures added { Adds out.old n p.now out.new result }
 {
-    let mut i = 0;
-    while i < p.len() {
-        byte(p[i], out, n + i);
-        i += 1;
-    }
-    n + i
+    out[n..n + p.len()].copy_from_slice(p);
+    n + p.len()
 }
 
 // Adds the digits of v: those before the last, then the last.
@@ -46,10 +38,10 @@ pub fn digits(v: u64, out: &mut [u8], n: usize) -> usize
     ensures added { Adds out.old n (decimal_of v) out.new result }
 {
     if v < 10 {
-        return byte(48 + v as u8, out, n);
+        return byte(b'0' + v as u8, out, n);
     }
     let m = digits(v / 10, out, n);
-    byte(48 + (v % 10) as u8, out, m)
+    byte(b'0' + (v % 10) as u8, out, m)
 }
 
 // Adds a blank and the digits of v.
@@ -58,6 +50,6 @@ pub fn number(v: u64, out: &mut [u8], n: usize) -> usize
     ensures added { Adds out.old n (32 ∷ decimal_of v) out.new result }
     ensures small { result ≤ n + 21 }
 {
-    let m = byte(32, out, n);
+    let m = byte(b' ', out, n);
     digits(v, out, m)
 }
