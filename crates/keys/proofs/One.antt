@@ -30,6 +30,12 @@ use Rattle.keys.specs.contracts.parts.second as second
 use Rattle.keys.proofs.parts.second.Reads as second_reads
 use Rattle.keys.specs.contracts.parts.third as third
 use Rattle.keys.proofs.parts.third.Reads as third_reads
+use Rattle.keys.specs.contracts.Keyed.points as points
+use Rattle.keys.proofs.Keyed.points.Reads as points_reads
+use Rattle.keys.specs.contracts.Keyed.receivers as receivers
+use Rattle.keys.proofs.Keyed.receivers.Reads as receivers_reads
+use Rattle.keys.specs.contracts.Keyed.records as records
+use Rattle.keys.proofs.Keyed.records.Reads as records_reads
 
 pub takes_one : One takes.ended takes_reads.Post
 takes_one κs a v v' w w' = alike
@@ -75,3 +81,12 @@ third_one κs a v v' w w' = alike
 
 pub killed_one : One killed.ended killed_reads.Post
 killed_one κs a v v' w w' = alike
+
+pub points_one : One points.ended points_reads.Post
+points_one κs a v v' w w' = alike
+
+pub receivers_one : One receivers.ended receivers_reads.Post
+receivers_one κs a v v' w w' = alike
+
+pub records_one : One records.ended records_reads.Post
+records_one κs a v v' w w' = alike

@@ -24,7 +24,7 @@ fn is_header(how: Reading, l: &[u8; 80]) -> bool
 fn is_marker(how: Reading, l: &[u8; 80]) -> bool
     ensures value { result ≡ is_marker sps93 (ranked (medium_of how).char_of l.now) }
 {
-    matches!(state::state_in(how, l), State::Marker)
+    state::state_in(how, l) == State::Marker
 }
 
 // A receiver or a shot: no header line and no marker.

@@ -12,7 +12,7 @@ ghost use Rattle.keys.specs.Held.{RelationLine};
 ghost use Rattle.mates.specs.Records.{Standing, goes_on, same_set};
 
 use fields::figures;
-use keys::{By, Keyed};
+use keys::Keyed;
 use lines::{Reading, Verdict};
 
 // The line just before relation line k is of the same tape and record.
@@ -20,10 +20,7 @@ pub fn goes_on(how: Reading, x: &[u8], k: usize) -> bool
     requires { Known 3 (sheet_of how x.now) × RelationLine (sheet_of how x.now) k }
     ensures value { result ≡ goes_on (sheet_of how x.now) k }
 {
-    let z = Keyed {
-        how,
-        by: By::Records,
-    };
+    let z = Keyed::records(how);
     k != 0 && keys::takes(z, x, k - 1) && keys::same(z, x, k - 1, k)
 }
 

@@ -8,7 +8,7 @@ ghost use Rattle.lines.specs.Reading.{sheet_of};
 ghost use Rattle.form.specs.Known.{Known};
 ghost use Rattle.points.specs.Last.{last_point};
 
-use keys::{By, Keyed};
+use keys::Keyed;
 use lines::{Reading, Verdict};
 
 // 10 of receiver k, where `last` is the last receiver before it.
@@ -17,10 +17,7 @@ fn receiver_fits(how: Reading, r: &[u8], k: usize, last: Option<usize>) -> Verdi
     requires before { last ≡ last_point (sheet_of how r.now) k }
     ensures verdict { paper result ≡ run (rule10_of (sheet_of how r.now) k) }
 {
-    let z = Keyed {
-        how,
-        by: By::Points,
-    };
+    let z = Keyed::points(how);
     match last {
         None => Ok(()),
         Some(j) if keys::less(z, r, j, k, false) => Ok(()),
@@ -33,10 +30,7 @@ pub fn receivers_fit(how: Reading, r: &[u8]) -> Verdict
     requires { Known 1 (sheet_of how r.now) }
     ensures verdict { paper result ≡ run (up_to (sheet_of how r.now).count (rule10_of (sheet_of how r.now))) }
 {
-    let z = Keyed {
-        how,
-        by: By::Points,
-    };
+    let z = Keyed::points(how);
     let mut last = None;
     for k in 0..lines::line_count(how, r) {
         if keys::takes(z, r, k) {

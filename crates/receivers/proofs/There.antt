@@ -2,7 +2,7 @@
 --   key_on x k n    = the key of its receiver number n
 --   stand          = where each is there, they stand in rows that follow each other
 --   inside, row_line_lem, rows_covered = so the rows of its receivers are those from the first on, as many as they are
---   none_first, too_few, last_tells = what the two looks tell
+--   too_few, last_tells = what the two looks tell
 use Prim.Native.Nat.{ℕ, ◌+◌, ◌-◌, ◌≤◌, ◌<◌}
 use native.Mathlib.Omega.{arith}
 use mathlib.Core.Path.{◌≡◌, sym, ap, subst, ◌∙◌}
@@ -200,13 +200,7 @@ module _ (r : Sheet) (o : List ℕ) (w : KnownReceivers r) (v : Rows r o) (x : S
 
   -- the two looks
   module _ (e : ℕ) (first : e ≡ first_row r o x k) where
-    pub none_first : e ≡ length o → false ≡ receivers_there r q
-    none_first g = sym (untrue _ (λ t. omega (arith, first_inside t)))
-
     module _ (low high : ℕ) (el : low ≡ lowest q) (eh : high ≡ highest q) where
-      pub ordered : low ≤ high
-      ordered = omega arith
-
       pub too_few : length o - e ≤ high - low → false ≡ receivers_there r q
       unfolding receivers
       too_few g = sym (untrue _ (λ t. omega (arith, inside t)))

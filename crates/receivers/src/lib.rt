@@ -11,41 +11,25 @@ ghost use Rattle.keys.specs.Held.{RelationLine, KnownReceivers};
 ghost use Rattle.receivers.specs.Rows.{Rows, is_row as is_row_of, not_below, row_of, first_row, FirstAt};
 
 use fields::figures;
-use keys::{By, Key, Keyed};
+use keys::{Key, Keyed};
 use lines::Reading;
-use records::cover;
 
 // Row e is not below the key y.
+#[tactic(auto, unfolding(crate::specs::Rows::not_below))]
 fn not_below(how: Reading, r: &[u8], o: &[u32], e: usize, y: Key) -> bool
     requires { e < length o.now }
     ensures value { result ≡ not_below (sheet_of how r.now) o.now y e }
 {
-    !keys::below(
-        Keyed {
-            how,
-            by: By::Receivers,
-        },
-        r,
-        o[e] as usize,
-        y,
-        false,
-    )
+    !keys::below(Keyed::receivers(how), r, o[e] as usize, y, false)
 }
 
 // Row e has the key y.
+#[tactic(auto, unfolding(crate::specs::Rows::is_row))]
 fn is_row(how: Reading, r: &[u8], o: &[u32], e: usize, y: Key) -> bool
     requires { e < length o.now }
     ensures value { result ≡ is_row_of (sheet_of how r.now) o.now y e }
 {
-    keys::is_at(
-        Keyed {
-            how,
-            by: By::Receivers,
-        },
-        r,
-        o[e] as usize,
-        y,
-    )
+    keys::is_at(Keyed::receivers(how), r, o[e] as usize, y)
 }
 
 // The first row that is not below y, by halves; the number of rows where all are.
@@ -66,19 +50,17 @@ fn first_from(how: Reading, r: &[u8], o: &[u32], y: Key) -> usize
     low
 }
 
-// The row of the receiver with the key y; the number of rows where there is none.
+// The row of the receiver with the key y; the number of rows where there is none, as `least` of the rules has it.
 fn row_of(how: Reading, r: &[u8], o: &[u32], y: Key) -> usize
     requires { KnownReceivers (sheet_of how r.now) × Rows (sheet_of how r.now) o.now }
     ensures value { result ≡ row_of (sheet_of how r.now) o.now y }
 {
     let e = first_from(how, r, o, y);
-    if e == o.len() {
-        return e;
+    if e != o.len() && is_row(how, r, o, e, y) {
+        e
+    } else {
+        o.len()
     }
-    if is_row(how, r, o, e, y) {
-        return e;
-    }
-    o.len()
 }
 
 // The row of the lowest receiver of relation line k; the number of rows where there is none.
@@ -88,7 +70,7 @@ pub fn first_row(how: Reading, r: &[u8], o: &[u32], x: &[u8], k: usize) -> usize
     ensures value { result ≡ first_row (sheet_of how r.now) o.now (sheet_of how x.now) k }
 {
     let l = lines::own_of(how, x, k);
-    let low = cover::lower(figures::number(&l, 64, 71), figures::number(&l, 72, 79));
+    let low = figures::number(&l, 64, 71).min(figures::number(&l, 72, 79));
     row_of(how, r, o, keys::receiver_key(how, x, k, low as u32))
 }
 
@@ -97,17 +79,10 @@ pub fn all_there(how: Reading, r: &[u8], o: &[u32], x: &[u8], k: usize, e: usize
     requires { FirstAt (sheet_of how r.now) o.now (sheet_of how x.now) k e }
     ensures value { result ≡ receivers_there (sheet_of how r.now) (reach_at (sheet_of how x.now) k) }
 {
-    let m = o.len();
-    if e == m {
-        return false;
-    }
     let l = lines::own_of(how, x, k);
     let from = figures::number(&l, 64, 71);
     let to = figures::number(&l, 72, 79);
-    let high = cover::higher(from, to);
-    let d = (high - cover::lower(from, to)) as usize;
-    if m - e <= d {
-        return false;
-    }
-    is_row(how, r, o, e + d, keys::receiver_key(how, x, k, high as u32))
+    let high = from.max(to);
+    let d = (high - from.min(to)) as usize;
+    d < o.len() - e && is_row(how, r, o, e + d, keys::receiver_key(how, x, k, high as u32))
 }

@@ -25,12 +25,13 @@ pub loop-k-preserved : goal.loop-k-preserved
 loop-k-preserved c = let at = c.loop-k.invariant in
     let n = c.line_count-k-end.ensures.value in
     let here = takes_point (sheet_of c.args.how c.args.r.now) c.loop-k.k (omega arith) in
+    let t = sym (rw c.points-z.ensures.value at c.takes.ensures.value) in
     elim c.if-takes.branch [
       | then-takes+in_ok-receiver_fits w ↦ record {
-        before = w.last-is ∙ sym (last_here _ _ (sym here ∙ sym c.takes.ensures.value ∙ w.if-takes.true));
+        before = w.last-is ∙ sym (last_here _ _ (sym here ∙ t ∙ w.if-takes.true));
         met = one_more _ _ at.met w.in_ok-receiver_fits.ensures.verdict;
       }
-      | else-takes w ↦ let off = sym here ∙ sym c.takes.ensures.value ∙ w.if-takes.false in record {
+      | else-takes w ↦ let off = sym here ∙ t ∙ w.if-takes.false in record {
         before = w.last-is ∙ at.before ∙ sym (last_other _ _ off);
         met = one_more _ _ at.met (ten_other _ _ off);
       }
