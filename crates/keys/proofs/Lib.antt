@@ -1,5 +1,4 @@
 pub mod Columns
-pub mod Compared
 pub mod Lines
 pub mod Letters
 pub mod Used
