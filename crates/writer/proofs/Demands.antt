@@ -27,12 +27,11 @@ use Rattle.rules.proofs.Breach.{Met}
 use Rattle.rules.proofs.Written.{Formed}
 use Rattle.rules.proofs.WrittenPoint.{point_row, point_formed, point_meets}
 use Rattle.rules.proofs.WrittenRelation.{relation_row, relation_formed, relation_meets}
-use Rattle.lines.specs.Paper.{paper}
-use Rattle.lines.specs.declared.Verdict.{Verdict}
-use Rattle.lines.specs.declared.Verdict.TheVariants.{Fine, Refused}
+use Rattle.std.specs.Prelude.{Ok, Err}
+use Rattle.lines.specs.Paper.{Verdict, paper}
 use Rattle.lines.proofs.One.{verdict_one}
 use Rattle.writer.specs.Coded.{point_of, relation_of}
-use Rattle.writer.specs.Said.{Told}
+use Rattle.writer.specs.Said.{refusal, Told}
 use Rattle.writer.specs.contracts.write_point as write_point
 use Rattle.writer.proofs.write_point.Reads as write_point_reads
 use Rattle.writer.specs.contracts.write_relation as write_relation
@@ -51,6 +50,14 @@ verdict_fine : (n : ℕ) → 82 ≤ n → run (writes true n) ≡ fine
 unfolding writes run ◌or_else◌ pick
 verdict_fine n h = rw (le-leb 82 n h)
 
+number_of : Verdict → ℕ
+number_of (Ok _) = 0
+number_of (Err e) = e.number
+
+other_number : refusal 22 ≡ refusal 23 → ⊥
+unfolding number_of
+other_number e = let z : ◌≡◌ {A = ℕ} 22 23 = ap number_of e in omega arith
+
 other : {a b : Verdict} (v : Verdict) → v ≡ a → (a ≡ b → ⊥) → v ≡ b → ⊥
 other v e n f = n (sym e ∙ f)
 
@@ -58,23 +65,23 @@ module _ (ok : Bool) (l o e : List ℕ) (v : Verdict) (p : paper v ≡ run (writ
   is : (u : Verdict) → run (writes ok (length o)) ≡ paper u → v ≡ u
   is u y = verdict_one v u (p ∙ y)
 
-  left : (i f k c : ℕ) → v ≡ Refused i f k c → e ≡ o
+  left : (n : ℕ) → v ≡ refusal n → e ≡ o
   unfolding into
-  left i f k c y = w ∙ ap (λ (u : Verdict). into (paper u) l o) y
+  left n y = w ∙ ap (λ (u : Verdict). into (paper u) l o) y
 
-  put : v ≡ Fine → e ≡ l ++ drop (length l) o
+  put : v ≡ Ok tt → e ≡ l ++ drop (length l) o
   unfolding into
   put y = w ∙ ap (λ (u : Verdict). into (paper u) l o) y
 
 told : (ok : Bool) (l o e : List ℕ) (v : Verdict) → paper v ≡ run (writes ok (length o)) → e ≡ into (paper v) l o → Told ok l o e v
 told false l o e v p w =
-    let y = is false l o e v p w (Refused 22 0 0 0) (verdict_22 (length o)) in
+    let y = is false l o e v p w (refusal 22) (verdict_22 (length o)) in
     record {
       fine_when = (λ f. absurd (other v y (λ q. let z : ◌≡◌ {A = ℕ} 0 1 = cc in omega arith) f), λ f. absurd (let q = f.0 in no q));
       twenty_two = (λ _ q. no q, λ _. y);
-      twenty_three = (λ f. absurd (other v y (λ q. let z : ◌≡◌ {A = ℕ} 22 23 = cc in omega arith) f), λ f. absurd (no f.0));
+      twenty_three = (λ f. absurd (other v y (λ q. other_number q) f), λ f. absurd (no f.0));
       written = λ f. absurd (other v y (λ q. let z : ◌≡◌ {A = ℕ} 0 1 = cc in omega arith) f);
-      unwritten = λ _. left false l o e v p w 22 0 0 0 y;
+      unwritten = λ _. left false l o e v p w 22 y;
     }
   where
     no : false ≡ true → ⊥
@@ -84,7 +91,7 @@ told true l o e v p w = go (leb 82 (length o)) refl
     go : (t : Bool) → leb 82 (length o) ≡ t → Told true l o e v
     go true h =
         let g = leb-true 82 (length o) h in
-        let y = is true l o e v p w Fine (verdict_fine (length o) g) in
+        let y = is true l o e v p w (Ok tt) (verdict_fine (length o) g) in
         record {
           fine_when = (λ _. (refl, g), λ _. y);
           twenty_two = (λ f. absurd (other v y (λ q. let z : ◌≡◌ {A = ℕ} 0 1 = cc in omega arith) f), λ f. absurd (f refl));
@@ -94,13 +101,13 @@ told true l o e v p w = go (leb 82 (length o)) refl
         }
     go false h =
         let s = leb-false 82 (length o) h in
-        let y = is true l o e v p w (Refused 23 0 0 0) (verdict_23 (length o) s) in
+        let y = is true l o e v p w (refusal 23) (verdict_23 (length o) s) in
         record {
           fine_when = (λ f. absurd (other v y (λ q. let z : ◌≡◌ {A = ℕ} 0 1 = cc in omega arith) f), λ f. absurd (let g = f.1 in omega arith));
-          twenty_two = (λ f. absurd (other v y (λ q. let z : ◌≡◌ {A = ℕ} 22 23 = cc in omega arith) f), λ f. absurd (f refl));
+          twenty_two = (λ f. absurd (other v y (λ q. other_number (sym q)) f), λ f. absurd (f refl));
           twenty_three = (λ _. (refl, s), λ _. y);
           written = λ f. absurd (other v y (λ q. let z : ◌≡◌ {A = ℕ} 0 1 = cc in omega arith) f);
-          unwritten = λ _. left true l o e v p w 23 0 0 0 y;
+          unwritten = λ _. left true l o e v p w 23 y;
         }
 
 -- a line of 82 bytes at the start of a slice
@@ -114,7 +121,7 @@ module _ (κs : Lfts 1) (a : ArgsD write_point.signature κs) (v : ResD write_po
   pub point_told : Told (point_writes a.0 (point_of a.1.0)) (point_line (kind_of a.0) (point_of a.1.0)) a.1.1.0.now w.1.1.0.now v
   point_told = told _ _ _ _ v p.0 p.1
 
-  pub point_reads : v ≡ Fine → point sps93 (take 80 w.1.1.0.now) ≡ point_of a.1.0
+  pub point_reads : v ≡ Ok tt → point sps93 (take 80 w.1.1.0.now) ≡ point_of a.1.0
   point_reads y =
       let g = (point_told.fine_when.0 y).0 in
       ap (point sps93)
@@ -122,7 +129,7 @@ module _ (κs : Lfts 1) (a : ArgsD write_point.signature κs) (v : ResD write_po
       (point_told.written y))
       ∙ point_row a.0 (point_of a.1.0) g
 
-  pub point_stands : v ≡ Fine → (k : ℕ)
+  pub point_stands : v ≡ Ok tt → (k : ℕ)
       → Formed (point_line (kind_of a.0) (point_of a.1.0)) × Met (rule5 (kind_of a.0) sps93 k (point_line (kind_of a.0) (point_of a.1.0)))
   point_stands y k =
       let g = (point_told.fine_when.0 y).0 in
@@ -133,14 +140,14 @@ module _ (κs : Lfts 1) (a : ArgsD write_relation.signature κs) (v : ResD write
   pub relation_told : Told (relation_writes (relation_of a.0)) (relation_line (relation_of a.0)) a.1.0.now w.1.0.now v
   relation_told = told _ _ _ _ v p.0 p.1
 
-  pub relation_reads : v ≡ Fine → relation sps93 (take 80 w.1.0.now) ≡ relation_of a.0
+  pub relation_reads : v ≡ Ok tt → relation sps93 (take 80 w.1.0.now) ≡ relation_of a.0
   relation_reads y =
       let g = (relation_told.fine_when.0 y).0 in
       ap (relation sps93)
       (first_80 (relation_line (relation_of a.0)) a.1.0.now w.1.0.now (relation_formed (relation_of a.0) g).long (relation_told.written y))
       ∙ relation_row (relation_of a.0) g
 
-  pub relation_stands : v ≡ Fine → (k : ℕ)
+  pub relation_stands : v ≡ Ok tt → (k : ℕ)
       → Formed (relation_line (relation_of a.0))
       × (Met (rule5 file_x sps93 k (relation_line (relation_of a.0))) × Met (rule6 sps93 k (reach sps93 (relation_line (relation_of a.0)))))
   relation_stands y k =

@@ -1,81 +1,48 @@
 -- Sixteen numbers as values.
---   plus_signed, minus_fits, minus_signed = a signed number of 64 bits
---   held_not, held_some                   = a value that may be absent
---   live_is, killed_is, marker_is         = a state
+--   place_signed                          = a signed number of 64 bits
 --   narrow                                = the numbers that go into a relation's fields have 32 bits
---   goes_not, goes_counted                = 22 of a relation
---   numbers_go, numbers_text, reach_text  = 22 of a point, and the lines of the two
+--   takes_is, text_is                     = 22 of a relation, and its line
+--   point_takes_is, point_text_is         = 22 of a point, and its line
 use Prim.Native.Nat.{ℕ, zero, suc, ◌-◌, ◌^◌, ◌≤◌, ◌<◌}
-use native.Mathlib.Nat.{zero-add}
 use native.Mathlib.Omega.{arith}
 use mathlib.Core.Path.{◌≡◌, refl, sym, ap, ◌∙◌}
-use mathlib.Core.Bool.{Bool, true, false}
+use mathlib.Core.Bool.{Bool, true, false, ◌&&◌}
 use mathlib.Core.List.{List, [], ◌∷◌}
 use lib.Dec.{leb, ltb}
-use lib.IntN.{ℤ, pos, negsuc, ◌-ℤ◌}
+use lib.IntN.{pos, negsuc}
 use lib.ListN.{length, get_or}
-use borrow.Author.Tests.{lt-ltb, le-ltb, eq-eqb, ne_eqb, leb-true}
+use borrow.Author.Tests.{ltb-true, ltb-false, leb-true}
 use mir.Syntax.{w64}
-use mir.Val.{SFits, to_z, of_z}
+use mir.Val.{to_z, of_z}
 use mir.ValLaws.{to_z-of_z, to_z_pos}
 use Rattle.rules.specs.Places.{pick}
 use Rattle.rules.specs.Layout.{sps93}
 use Rattle.rules.specs.Kinds.{whole_number, index}
-use Rattle.rules.specs.Points.{State as PaperState, live, killed, marker}
 use Rattle.rules.specs.Relations.{Reach as PaperReach}
 use Rattle.rules.specs.Lines.{letter, kind_of}
 use Rattle.rules.specs.Rows.{Row, point_rows, relation_rows}
-use Rattle.rules.specs.Values.{Value as PaperValue, number, nothing}
+use Rattle.rules.specs.Values.{Value as PaperValue, nothing}
 use Rattle.rules.specs.Spelled.{up_from, allows_number, allows, goes_into}
 use Rattle.rules.specs.Writer.{width_of, writable, point_goes, line_of, counted}
-use Rattle.rules.specs.Carried.{of_place, held_given, state_given, count_given, point_given, relation_given, reach_given}
+use Rattle.rules.specs.Carried.{of_place, state_given, count_given, point_given, relation_given, reach_given}
 use Rattle.rules.proofs.Tests.{and_is, clash}
 use Rattle.records.specs.Coded.{no_row}
 use Rattle.writer.specs.Coded.{text_of}
 use Rattle.writer.specs.Given.{Narrow, point_takes, point_text, relation_takes, relation_text}
 
--- a number from 0 on
-pub plus_signed : (v : ℕ) → v < 9223372036854775808 → to_z w64 v ≡ of_place v
+-- a signed number of 64 bits
+pub place_signed : (v : ℕ) → v < 2 ^ 64 → to_z w64 v ≡ of_place v
 unfolding of_place pick
-plus_signed v h = to_z_pos w64 v (omega arith) ∙ (rw (lt-ltb v (2 ^ 63) h))
+place_signed v g = go (ltb v (2 ^ 63)) refl
+  where
+    go : (t : Bool) → ltb v (2 ^ 63) ≡ t → to_z w64 v ≡ pick t (pos v) (negsuc (2 ^ 64 - 1 - v))
+    go true e = to_z_pos w64 v (omega (arith, ltb-true v (2 ^ 63) e))
+    go false e =
+        let h = ltb-false v (2 ^ 63) e in
+        let b : of_z w64 (negsuc (2 ^ 64 - 1 - v)) ≡ v = omega arith in
+        ap (to_z w64) (sym b) ∙ to_z-of_z w64 (negsuc (2 ^ 64 - 1 - v)) (record { sfits = omega arith })
 
--- a number below 0
-less : (m : ℕ) → negsuc 0 -ℤ pos m ≡ negsuc m
-less zero = refl
-less (suc m) = ap (λ (k : ℕ). negsuc (suc k)) (zero-add m)
-
-module _ (v : ℕ) (h : 9223372036854775808 ≤ v) (g : v < 2 ^ 64) where
-  less_is : negsuc 0 -ℤ to_z w64 (18446744073709551615 - v) ≡ negsuc (18446744073709551615 - v)
-  less_is = ap (λ (z : ℤ). negsuc 0 -ℤ z) (to_z_pos w64 (18446744073709551615 - v) (omega arith)) ∙ less (18446744073709551615 - v)
-
-  pub minus_fits : SFits w64 (negsuc 0 -ℤ to_z w64 (18446744073709551615 - v))
-  minus_fits = rw less_is (record { sfits = omega arith })
-
-  pub minus_signed : to_z w64 (of_z w64 (negsuc 0 -ℤ to_z w64 (18446744073709551615 - v))) ≡ of_place v
-  unfolding of_place pick
-  minus_signed = to_z-of_z w64 _ minus_fits ∙ less_is ∙ (rw (le-ltb v (2 ^ 63) h))
-
--- absent, and not
-pub held_not : (v : ℕ) → v ≡ 9223372036854775808 → nothing ≡ held_given v
-unfolding pick
-held_not v e = rw (eq-eqb v (2 ^ 63) e)
-
-pub held_some : (v : ℕ) → (v ≡ 9223372036854775808 → ⊥) → number (of_place v) ≡ held_given v
-unfolding pick
-held_some v n = rw (ne_eqb v (2 ^ 63) n)
-
--- the state
-pub live_is : (n : ℕ) → n ≡ 0 → live ≡ state_given n
-unfolding pick
-live_is n e = rw (eq-eqb n 0 e)
-
-pub killed_is : (n : ℕ) → (n ≡ 0 → ⊥) → n ≡ 1 → killed ≡ state_given n
-unfolding pick
-killed_is n z e = rw (ne_eqb n 0 z, eq-eqb n 1 e)
-
-pub marker_is : (n : ℕ) → (n ≡ 0 → ⊥) → (n ≡ 1 → ⊥) → marker ≡ state_given n
-unfolding pick
-marker_is n z e = rw (ne_eqb n 0 z, ne_eqb n 1 e)
+pub ruleset signed = (place_signed, to_z-of_z)
 
 -- a number that a field takes
 up_few : (a b v : ℕ) → up_from a b (of_place v) ≡ true → v ≤ b
@@ -117,26 +84,27 @@ narrow v e =
       receiver_index = let z = index_few 1 (v 15) (goes_at 13 (relation_rows sps93) (relation_given v) (omega arith) e) in omega arith;
     }
 
--- 22 of a relation
-module _ (v : ℕ → ℕ) (t : Bool) (q : t ≡ writable (relation_rows sps93) (relation_given v)) where
-  pub goes_not : t ≡ false → false ≡ relation_takes v
-  unfolding relation_takes
-  goes_not f = rw (← q, f)
+-- 22 of a relation, and its line
+pub takes_is : (v : ℕ → ℕ) (r : PaperReach) → (Narrow v → r ≡ reach_given v)
+    → relation_takes v ≡ (writable (relation_rows sps93) (relation_given v) && counted r)
+unfolding relation_takes
+takes_is v r f = go (writable (relation_rows sps93) (relation_given v)) refl
+  where
+    go : (t : Bool) → writable (relation_rows sps93) (relation_given v) ≡ t → (t && counted (reach_given v)) ≡ (t && counted r)
+    go true e = ap counted (sym (f (narrow v e)))
+    go false e = refl
 
-  pub goes_counted : t ≡ true → (r : PaperReach) → (Narrow v → r ≡ reach_given v) → (u : Bool) → u ≡ counted r → u ≡ relation_takes v
-  unfolding relation_takes
-  goes_counted y r f u e = e ∙ ap counted (f (narrow v (sym q ∙ y))) ∙ (rw (← q, y))
-
--- a point and a relation
-module _ (b : ℕ) (v : ℕ → ℕ) (xs : List PaperValue) (q : xs ≡ point_given v) where
-  pub numbers_go : (s : PaperState) → s ≡ state_given (v 5) → point_goes b (text_of 2 0 (v 4)) s xs ≡ point_takes b v
-  unfolding point_takes text_of pick
-  numbers_go s p = rw (p, q)
-
-  pub numbers_text : line_of (letter (kind_of b)) (point_rows sps93 (kind_of b)) xs ≡ point_text b v
-  unfolding point_text
-  numbers_text = rw q
-
-pub reach_text : (v : ℕ → ℕ) (xs : List PaperValue) → xs ≡ relation_given v → line_of 88 (relation_rows sps93) xs ≡ relation_text v
+pub text_is : (v : ℕ → ℕ) → relation_text v ≡ line_of 88 (relation_rows sps93) (relation_given v)
 unfolding relation_text letter pick
-reach_text v xs q = rw q
+text_is v = refl
+
+-- those of a point
+pub point_takes_is : (b : ℕ) (v : ℕ → ℕ) → point_takes b v ≡ point_goes b (text_of 2 0 (v 4)) (state_given (v 5)) (point_given v)
+unfolding point_takes text_of pick
+point_takes_is b v = refl
+
+pub point_text_is : (b : ℕ) (v : ℕ → ℕ) → point_text b v ≡ line_of (letter (kind_of b)) (point_rows sps93 (kind_of b)) (point_given v)
+unfolding point_text
+point_text_is b v = refl
+
+pub ruleset points = (point_takes_is, point_text_is)

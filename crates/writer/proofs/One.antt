@@ -7,10 +7,6 @@ use Rattle.rules.specs.Plan.{Verdict as PaperVerdict}
 use Rattle.rules.specs.Writer.{into}
 use Rattle.outcome.specs.One.{One, alike, both}
 use Rattle.lines.proofs.One.{verdict_one}
-use Rattle.writer.specs.contracts.signs.is_minus as is_minus
-use Rattle.writer.proofs.signs.is_minus.Reads as is_minus_reads
-use Rattle.writer.specs.contracts.signs.size as size
-use Rattle.writer.proofs.signs.size.Reads as size_reads
 use Rattle.writer.specs.contracts.rows.width as width
 use Rattle.writer.proofs.rows.width.Reads as width_reads
 use Rattle.writer.specs.contracts.allowed.allows as allows
@@ -23,12 +19,6 @@ use Rattle.writer.specs.contracts.write_point_numbers as write_point_numbers
 use Rattle.writer.proofs.write_point_numbers.Reads as write_point_numbers_reads
 use Rattle.writer.specs.contracts.write_relation_numbers as write_relation_numbers
 use Rattle.writer.proofs.write_relation_numbers.Reads as write_relation_numbers_reads
-
-pub is_minus_one : One is_minus.ended is_minus_reads.Post
-is_minus_one κs a v v' w w' = alike
-
-pub size_one : One size.ended size_reads.Post
-size_one κs a v v' w w' = alike
 
 pub width_one : One width.ended width_reads.Post
 width_one κs a v v' w w' = alike

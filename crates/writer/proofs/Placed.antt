@@ -20,8 +20,9 @@ use Rattle.texts.proofs.Adding.{then}
 use Rattle.rules.specs.Carried.{bytes_of}
 use Rattle.writer.specs.Coded.{text_of, value_of}
 use Rattle.writer.specs.Texts.{Starts}
+use Rattle.std.specs.Prelude.{Option, Some, None}
 use Rattle.writer.specs.declared.values.Value.{Value}
-use Rattle.writer.specs.declared.values.Value.TheVariants.{Text, Number, Nothing}
+use Rattle.writer.specs.declared.values.Value.TheVariants.{Text, Number}
 use Rattle.writer.proofs.Spelling.{bytes_long, text_short, text_long}
 use Rattle.writer.proofs.Ruled.{width_any}
 
@@ -41,11 +42,11 @@ text_length w hi lo o = go (leb w 8) refl
         ap length (text_long w hi lo h) ∙ length-append (bytes_of (w - 8) hi) (bytes_of 8 lo)
         ∙ rw (bytes_long (w - 8) hi, bytes_long 8 lo) (let z : w - 8 + 8 ≡ w = omega arith in z)
 
-hold_is : (k : Kind) (w : ℕ) (v : Value) → 1 ≤ w → columns_hold k w (value_of w v) ≡ leb (length (spelled k w (value_of w v))) w
+hold_is : (k : Kind) (w : ℕ) (v : Option Value) → 1 ≤ w → columns_hold k w (value_of w v) ≡ leb (length (spelled k w (value_of w v))) w
 unfolding columns_hold spelled
-hold_is k w (Text hi lo) o = rw (text_length w hi lo o, eq-eqb w w refl, le-leb w w (omega arith))
-hold_is k w (Number z) o = refl
-hold_is k w Nothing o = sym (le-leb 0 w (omega arith))
+hold_is k w (Some (Text m)) o = rw (text_length w m.hi m.lo o, eq-eqb w w refl, le-leb w w (omega arith))
+hold_is k w (Some (Number z)) o = refl
+hold_is k w None o = sym (le-leb 0 w (omega arith))
 
 adds_is : {a t u b : List ℕ} {n m k : ℕ} → Adds a n t b m → t ≡ u → m ≡ k → Adds a n u b k
 adds_is {a} {t} {u} {b} {n} {m} {k} e p q = rw (← p, ← q) e
@@ -54,13 +55,13 @@ pub padded_length : (b w : ℕ) (t : List ℕ) → length t ≤ w → length (pa
 unfolding padded
 padded_length b w t h = length-append (replicate (w - length t) b) t ∙ rw (length-replicate (w - length t) b) (omega arith)
 
-pub spell_length : (k : Kind) (w : ℕ) (v : Value) → 1 ≤ w → goes_into k w (value_of w v) ≡ true → length (spell k w (value_of w v)) ≡ w
+pub spell_length : (k : Kind) (w : ℕ) (v : Option Value) → 1 ≤ w → goes_into k w (value_of w v) ≡ true → length (spell k w (value_of w v)) ≡ w
 unfolding goes_into spell
 spell_length k w v o e =
     let p = ((and_is (allows k (value_of w v)) (columns_hold k w (value_of w v))).0 e).1 in
     padded_length 32 w (spelled k w (value_of w v)) (leb-true (length (spelled k w (value_of w v))) w (sym (hold_is k w v o) ∙ p))
 
-module _ (w : Row) (s : sized w.kind w.first w.last ≡ true) (v : Value) (t : Bool) where
+module _ (w : Row) (s : sized w.kind w.first w.last ≡ true) (v : Option Value) (t : Bool) where
   abbrev width : ℕ
   width = width_of (row_of w).columns
 

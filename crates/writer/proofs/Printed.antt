@@ -3,7 +3,7 @@ use Prim.Native.Nat.{ℕ, zero, suc, ◌-◌, ◌/◌, ◌%◌, ◌^◌, ◌≤�
 use native.Mathlib.Nat.{pow-suc}
 use native.Mathlib.Omega.{arith}
 use mathlib.Core.Path.{◌≡◌, refl, sym, ap, ap₂, ◌∙◌}
-use mathlib.Core.Bool.{Bool, true, false, not, ◌&&◌, and-true, and-false, and_assoc, and_comm}
+use mathlib.Core.Bool.{Bool, true, false, not, ◌&&◌, and-true, and_assoc, and_comm}
 use mathlib.Core.List.{List, [], ◌∷◌, ◌++◌}
 use lib.Dec.{leb, eqb}
 use lib.ListN.{length, get_or, get_or-append}
@@ -40,48 +40,28 @@ printed_one : (v : ℕ) → all_printed (v ∷ []) ≡ printable v
 unfolding every
 printed_one v = refl
 
-module _ (k r : ℕ) (h : 1 < k) where
-  printed_last : all_printed (bytes_of k r) ≡ (all_printed (bytes_of (k - 1) (r / 256)) && printable (r % 256))
-  printed_last =
-      ap all_printed (bytes_more k r h)
-      ∙ printed_append (bytes_of (k - 1) (r / 256)) (r % 256 ∷ [])
-      ∙ ap (λ (t : Bool). all_printed (bytes_of (k - 1) (r / 256)) && t) (printed_one (r % 256))
+-- one byte after the other, from the last
+pub printed_more : (k r : ℕ) → 1 < k → all_printed (bytes_of k r) ≡ (all_printed (bytes_of (k - 1) (r / 256)) && printable (r % 256))
+printed_more k r h =
+    ap all_printed (bytes_more k r h)
+    ∙ printed_append (bytes_of (k - 1) (r / 256)) (r % 256 ∷ [])
+    ∙ ap (λ (t : Bool). all_printed (bytes_of (k - 1) (r / 256)) && t) (printed_one (r % 256))
 
-  module _ (X t : Bool) (e : all_printed (bytes_of k r) ≡ X) (q : t ≡ printable (r % 256)) where
-    pub printed_stop : t ≡ false → false ≡ X
-    printed_stop n =
-        sym (sym e ∙ printed_last ∙ ap (λ (u : Bool). all_printed (bytes_of (k - 1) (r / 256)) && u) (sym q ∙ n)
-        ∙ and-false (all_printed (bytes_of (k - 1) (r / 256))))
+pub printed_only : (k r : ℕ) → k ≡ 1 → all_printed (bytes_of k r) ≡ printable r
+printed_only k r e = ap all_printed (bytes_one k r (omega arith) (omega arith)) ∙ printed_one r
 
-    pub printed_step : t ≡ true → all_printed (bytes_of (k - 1) (r / 256)) ≡ X
-    printed_step n =
-        sym (printed_last ∙ ap (λ (u : Bool). all_printed (bytes_of (k - 1) (r / 256)) && u) (sym q ∙ n)
-        ∙ and-true (all_printed (bytes_of (k - 1) (r / 256)))) ∙ e
+pub first_more : (k r : ℕ) → 1 < k → col (bytes_of k r) 1 ≡ col (bytes_of (k - 1) (r / 256)) 1
+unfolding col
+first_more k r h =
+    let l = bytes_long (k - 1) (r / 256) in
+    ap (λ (bs : List ℕ). get_or bs 0 0) (bytes_more k r h)
+    ∙ get_or-append (bytes_of (k - 1) (r / 256)) (r % 256 ∷ []) 0 0 (omega arith)
 
-  pub first_step : (X : ℕ) → col (bytes_of k r) 1 ≡ X → col (bytes_of (k - 1) (r / 256)) 1 ≡ X
-  unfolding col
-  first_step X e =
-      let l = bytes_long (k - 1) (r / 256) in
-      sym (get_or-append (bytes_of (k - 1) (r / 256)) (r % 256 ∷ []) 0 0 (omega arith))
-      ∙ ap (λ (bs : List ℕ). get_or bs 0 0) (sym (bytes_more k r h)) ∙ e
+pub first_only : (k r : ℕ) → k ≡ 1 → col (bytes_of k r) 1 ≡ r
+unfolding col
+first_only k r e = ap (λ (bs : List ℕ). get_or bs 0 0) (bytes_one k r (omega arith) (omega arith))
 
-module _ (k r : ℕ) (o : 1 ≤ k) (h : k ≤ 1) where
-  pub printed_end : (X t : Bool) → all_printed (bytes_of k r) ≡ X → t ≡ printable r → t ≡ X
-  printed_end X t e q = q ∙ sym (printed_one r) ∙ ap all_printed (sym (bytes_one k r o h)) ∙ e
-
-  pub first_end : (X : ℕ) → col (bytes_of k r) 1 ≡ X → r ≡ X
-  unfolding col
-  first_end X e = ap (λ (bs : List ℕ). get_or bs 0 0) (sym (bytes_one k r o h)) ∙ e
-
--- a text that begins with no blank
-module _ (bs : List ℕ) (t : Bool) (q : t ≡ all_printed bs) where
-  pub begins_not : t ≡ false → false ≡ allows_text starts_non_blank bs
-  unfolding allows_text
-  begins_not e = rw (← q, e)
-
-  pub begins_is : t ≡ true → (b : ℕ) → b ≡ col bs 1 → not (eqb b 32) ≡ allows_text starts_non_blank bs
-  unfolding allows_text
-  begins_is e b f = rw (← q, e, ← f)
+pub ruleset bytes_by_one = (printed_more, printed_only, first_more, first_only)
 
 swap : (p q n : Bool) → ((p && q) && n) ≡ ((p && n) && q)
 swap true q n = and_comm q n
@@ -93,23 +73,16 @@ two_texts a b h =
     ap₂ (λ (t : Bool) (c : ℕ). t && not (eqb c 32)) (printed_append a b) (get_or-append a b 0 0 h)
     ∙ swap (all_printed a) (all_printed b) (not (eqb (get_or a 0 0) 32))
 
-module _ (w hi lo : ℕ) where
-  pub name_short : w ≤ 8 → (t : Bool) → t ≡ allows_text starts_non_blank (bytes_of w lo) → t ≡ allows_text starts_non_blank (text_of w hi lo)
-  name_short h t q = q ∙ ap (allows_text starts_non_blank) (sym (text_short w hi lo h))
+pub name_short : (w hi lo : ℕ) → w ≤ 8 → allows_text starts_non_blank (text_of w hi lo) ≡ allows_text starts_non_blank (bytes_of w lo)
+name_short w hi lo h = ap (allows_text starts_non_blank) (text_short w hi lo h)
 
-  module _ (h : 8 < w) (t : Bool) (q : t ≡ allows_text starts_non_blank (bytes_of (w - 8) hi)) where
-    both : allows_text starts_non_blank (text_of w hi lo) ≡ (t && all_printed (bytes_of 8 lo))
-    both =
-        let l = bytes_long (w - 8) hi in
-        ap (allows_text starts_non_blank) (text_long w hi lo h)
-        ∙ two_texts (bytes_of (w - 8) hi) (bytes_of 8 lo) (omega arith)
-        ∙ ap (λ (u : Bool). u && all_printed (bytes_of 8 lo)) (sym q)
+pub name_long : (w hi lo : ℕ) → 8 < w → allows_text starts_non_blank (text_of w hi lo)
+    ≡ (allows_text starts_non_blank (bytes_of (w - 8) hi) && all_printed (bytes_of 8 lo))
+name_long w hi lo h =
+    let l = bytes_long (w - 8) hi in
+    ap (allows_text starts_non_blank) (text_long w hi lo h) ∙ two_texts (bytes_of (w - 8) hi) (bytes_of 8 lo) (omega arith)
 
-    pub name_not : t ≡ false → false ≡ allows_text starts_non_blank (text_of w hi lo)
-    name_not e = sym (both ∙ ap (λ (u : Bool). u && all_printed (bytes_of 8 lo)) e)
-
-    pub name_long : t ≡ true → (u : Bool) → u ≡ all_printed (bytes_of 8 lo) → u ≡ allows_text starts_non_blank (text_of w hi lo)
-    name_long e u f = f ∙ sym (both ∙ ap (λ (u : Bool). u && all_printed (bytes_of 8 lo)) e)
+pub ruleset names = (name_short, name_long)
 
 -- a code whose first byte is none
 never : (t d : Bool) → false ≡ (pick t false false && d)
@@ -137,9 +110,9 @@ code_not i b d h =
     other : (c : ℕ) → c < 255 → eqb b c ≡ false
     other c g = ne_eqb b c (λ e. omega arith)
 
-pub code_wide : (i v : ℕ) → 65535 < v → false ≡ is_code i (bytes_of 2 v)
+pub code_wide : (i v : ℕ) → 65535 < v → is_code i (bytes_of 2 v) ≡ false
 unfolding bytes_of
-code_wide i v h = code_not i (v / 256) (v % 256) (omega arith)
+code_wide i v h = sym (code_not i (v / 256) (v % 256) (omega arith))
 
 pub code_two : (v : ℕ) → bytes_of 2 v ≡ v / 256 ∷ v % 256 ∷ []
 unfolding bytes_of
@@ -149,11 +122,11 @@ code_two v = refl
 printed_small : (n v : ℕ) → all_printed (bytes_of (suc n) v) ≡ true → v < 256 ^ suc n
 unfolding printable
 printed_small zero v e =
-    let p = (and_is (leb 32 v) (leb v 126)).0 (sym (printed_one v) ∙ ap all_printed (sym (bytes_one 1 v (omega arith) (omega arith))) ∙ e) in
+    let p = (and_is (leb 32 v) (leb v 126)).0 (sym (printed_only 1 v refl) ∙ e) in
     omega (arith, leb-true v 126 p.1)
 printed_small (suc n) v e =
     let k : suc (suc n) - 1 ≡ suc n = omega arith in
-    let p = (and_is (all_printed (bytes_of (suc (suc n) - 1) (v / 256))) (printable (v % 256))).0 (sym (printed_last (suc (suc n)) v (omega arith)) ∙ e) in
+    let p = (and_is (all_printed (bytes_of (suc (suc n) - 1) (v / 256))) (printable (v % 256))).0 (sym (printed_more (suc (suc n)) v (omega arith)) ∙ e) in
     let q : v / 256 < 256 ^ suc n = printed_small n (v / 256) (ap (λ (m : ℕ). all_printed (bytes_of m (v / 256))) (sym k) ∙ p.0) in
     omega (arith, pow-suc 256 (suc n))
 
@@ -185,4 +158,4 @@ code_narrow i w hi lo o e =
 
     small : (t : Bool) → leb lo 65535 ≡ t → lo < 256 ^ 2
     small true q = omega (arith, leb-true lo 65535 q)
-    small false q = clash (code_wide i lo (omega (arith, leb-false lo 65535 q)) ∙ two)
+    small false q = clash (sym (code_wide i lo (omega (arith, leb-false lo 65535 q))) ∙ two)

@@ -2,11 +2,11 @@
 use Prim.Native.Nat.{ℕ, ◌+◌, ◌≤◌}
 use native.Mathlib.Omega.{arith}
 use mathlib.Core.Path.{◌≡◌, refl, sym, ap, ◌∙◌}
-use mathlib.Core.Bool.{Bool, true, false}
-use mathlib.Core.List.{List}
+use mathlib.Core.Bool.{Bool, true, false, not, ◌&&◌}
+use mathlib.Core.List.{List, []}
 use lib.IntN.{ℤ}
 use Rattle.rules.specs.Kinds.{Kind as PaperKind}
-use Rattle.rules.specs.Spelled.{allows_text, allows_number, allows_nothing, allows, spelled_as, spelled}
+use Rattle.rules.specs.Spelled.{allows_text, allows_number, allows_nothing, allows, spelled_as}
 use Rattle.rules.specs.Writer.{width_of}
 use Rattle.rules.proofs.Tests.{clash}
 use Rattle.fields.specs.Paper.{kind, sized}
@@ -20,8 +20,11 @@ use Rattle.rules.specs.Carried.{bytes_of}
 use Rattle.writer.specs.Coded.{text_of, value_of}
 use Rattle.writer.specs.Texts.{Starts, Narrow}
 use Rattle.writer.specs.declared.values.Value.{Value}
-use Rattle.writer.specs.declared.values.Value.TheVariants.{Text, Number, Nothing}
-use Rattle.writer.proofs.Spelling.{text_short}
+use Rattle.writer.specs.declared.values.Value.TheVariants.{Text}
+use Rattle.std.specs.Prelude.{Option, Some}
+use Rattle.fields.specs.declared.Name.{Name}
+use mir.ValLaws.{to_z-of_z}
+use Rattle.writer.proofs.Spelling.{started, text_short}
 use Rattle.writer.proofs.Printed.{name_narrow, code_narrow}
 
 module _ (w : Row) (s : sized w.kind w.first w.last ≡ true) where
@@ -41,37 +44,37 @@ pub two_text : (w hi lo : ℕ) → w ≡ 2 → text_of w hi lo ≡ bytes_of 2 lo
 two_text w hi lo e = text_short w hi lo (omega arith) ∙ ap (λ (n : ℕ). bytes_of n lo) e
 
 -- a field that may be blank
-pub text_kept : (b : Bool) (k : PaperKind) (bs : List ℕ) → b ≡ false → allows_text k bs ≡ allows_text (or_blank b k) bs
-text_kept b k bs e = ap (λ (t : Bool). allows_text (or_blank t k) bs) (sym e)
-
-pub text_blank : (b : Bool) (k : PaperKind) (bs : List ℕ) → b ≡ true → false ≡ allows_text (or_blank b k) bs
+pub text_allowed : (b : Bool) (k : PaperKind) (bs : List ℕ) → allows_text (or_blank b k) bs ≡ (not b && allows_text k bs)
 unfolding allows_text
-text_blank b k bs e = ap (λ (t : Bool). allows_text (or_blank t k) bs) (sym e)
+text_allowed true k bs = refl
+text_allowed false k bs = refl
 
-pub number_kept : (b : Bool) (k : PaperKind) (z : ℤ) → allows_number k z ≡ allows_number (or_blank b k) z
+pub number_allowed : (b : Bool) (k : PaperKind) (z : ℤ) → allows_number (or_blank b k) z ≡ allows_number k z
 unfolding allows_number
-number_kept true k z = refl
-number_kept false k z = refl
+number_allowed true k z = refl
+number_allowed false k z = refl
 
-pub spelled_kept : (b : Bool) (k : PaperKind) (w : ℕ) (z : ℤ) → spelled_as k w z ≡ spelled_as (or_blank b k) w z
+pub spelled_kept : (b : Bool) (k : PaperKind) (w : ℕ) (z : ℤ) → spelled_as (or_blank b k) w z ≡ spelled_as k w z
 unfolding spelled_as
 spelled_kept true k w z = refl
 spelled_kept false k w z = refl
 
-pub nothing_kept : (b : Bool) (k : Kind) → b ≡ allows_nothing (or_blank b (kind k))
+pub nothing_allowed : (b : Bool) (k : Kind) → allows_nothing (or_blank b (kind k)) ≡ b
 unfolding allows_nothing
-nothing_kept true k = refl
-nothing_kept false StartsNonBlank = refl
-nothing_kept false DigitsOnly = refl
-nothing_kept false Coordinate = refl
-nothing_kept false Index = refl
-nothing_kept false WaterDepth = refl
-nothing_kept false Time = refl
-nothing_kept false (WholeNumber m n) = refl
-nothing_kept false (SignedNumber m n) = refl
-nothing_kept false (SignedDecimal m n) = refl
-nothing_kept false (DecimalNumber n) = refl
-nothing_kept false (Code i) = refl
+nothing_allowed true k = refl
+nothing_allowed false StartsNonBlank = refl
+nothing_allowed false DigitsOnly = refl
+nothing_allowed false Coordinate = refl
+nothing_allowed false Index = refl
+nothing_allowed false WaterDepth = refl
+nothing_allowed false Time = refl
+nothing_allowed false (WholeNumber m n) = refl
+nothing_allowed false (SignedNumber m n) = refl
+nothing_allowed false (SignedDecimal m n) = refl
+nothing_allowed false (DecimalNumber n) = refl
+nothing_allowed false (Code i) = refl
+
+pub ruleset fields = (to_z-of_z, text_allowed, number_allowed, nothing_allowed)
 
 -- a text that is allowed has no more bytes than its columns
 narrow : (b : Bool) (k : Kind) (w hi lo : ℕ) → 1 ≤ w → ((i : ℕ) → k ≡ Code i → w ≡ 2) → allows_text (or_blank b (kind k)) (text_of w hi lo) ≡ true
@@ -90,43 +93,16 @@ narrow false (SignedDecimal m n) w hi lo o c e = clash e
 narrow false (DecimalNumber n) w hi lo o c e = clash e
 narrow false (Code i) w hi lo o c e = code_narrow i w hi lo (c i refl) e
 
-module _ (w : Row) (s : sized w.kind w.first w.last ≡ true) (v : Value) where
-  abbrev width : ℕ
-  width = width_of (row_of w).columns
+pub text_narrow : (w : Row) → sized w.kind w.first w.last ≡ true → (v : Option Value) (m : Name) → v ≡ Some (Text m)
+    → allows (row_of w).kind (value_of (width_of (row_of w).columns) v) ≡ true → Narrow (width_of (row_of w).columns) m.hi m.lo
+unfolding allows
+text_narrow w s v m e a =
+    let width = width_of (row_of w).columns in
+    narrow w.blank w.kind width m.hi m.lo (width_any w s) (width_two w s)
+    (sym (ap (λ (u : Option Value). allows (row_of w).kind (value_of width u)) e) ∙ a)
 
-  module _ (hi lo : ℕ) (e : v ≡ Text hi lo) where
-    pub text_narrow : allows (row_of w).kind (value_of width v) ≡ true → Narrow width hi lo
-    unfolding allows
-    text_narrow a =
-        narrow w.blank w.kind width hi lo (width_any w s) (width_two w s)
-        (sym (ap (λ (u : Value). allows (row_of w).kind (value_of width u)) e) ∙ a)
+-- the text of a value
+pub no_text : (b : List ℕ) → Starts b [] 0
+no_text b = record { ends = refl; front = refl }
 
-    pub text_told : (n : ℕ) → n ≡ width → text_of n hi lo ≡ spelled (row_of w).kind width (value_of width v)
-    unfolding spelled
-    text_told n q = ap (λ (m : ℕ). text_of m hi lo) q ∙ sym (ap (λ (u : Value). spelled (row_of w).kind width (value_of width u)) e)
-
-    pub text_allowed : (t : Bool) → t ≡ allows_text (row_of w).kind (text_of width hi lo) → t ≡ allows (row_of w).kind (value_of width v)
-    unfolding allows
-    text_allowed t q = q ∙ sym (ap (λ (u : Value). allows (row_of w).kind (value_of width u)) e)
-
-  module _ (z : ℤ) (e : v ≡ Number z) where
-    pub number_told : (n : ℕ) → n ≡ width → spelled_as (kind w.kind) n z ≡ spelled (row_of w).kind width (value_of width v)
-    unfolding spelled
-    number_told n q =
-        ap (λ (m : ℕ). spelled_as (kind w.kind) m z) q ∙ spelled_kept w.blank (kind w.kind) width z
-        ∙ sym (ap (λ (u : Value). spelled (row_of w).kind width (value_of width u)) e)
-
-    pub number_allowed : (t : Bool) → t ≡ allows_number (kind w.kind) z → t ≡ allows (row_of w).kind (value_of width v)
-    unfolding allows
-    number_allowed t q =
-        q ∙ number_kept w.blank (kind w.kind) z ∙ sym (ap (λ (u : Value). allows (row_of w).kind (value_of width u)) e)
-
-  module _ (e : v ≡ Nothing) where
-    pub nothing_told : (b : List ℕ) → Starts b (spelled (row_of w).kind width (value_of width v)) 0
-    unfolding spelled
-    nothing_told b = rw e (record { ends = refl; front = refl })
-
-    pub nothing_allowed : w.blank ≡ allows (row_of w).kind (value_of width v)
-    unfolding allows
-    nothing_allowed =
-        nothing_kept w.blank w.kind ∙ sym (ap (λ (u : Value). allows (row_of w).kind (value_of width u)) e)
+pub ruleset texts = (to_z-of_z, started, spelled_kept, no_text)

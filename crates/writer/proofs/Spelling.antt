@@ -2,25 +2,21 @@
 use Prim.Native.Nat.{ℕ, zero, suc, ◌+◌, ◌-◌, ◌/◌, ◌%◌, ◌^◌, ◌≤◌, ◌<◌}
 use native.Mathlib.Nat.{add-zero, pow-suc}
 use native.Mathlib.Omega.{arith}
-use mathlib.Core.Path.{◌≡◌, refl, sym, ap, ap₂, ◌∙◌}
+use mathlib.Core.Path.{◌≡◌, refl, sym, ap, ◌∙◌}
 use mathlib.Core.Bool.{Bool}
 use mathlib.Core.List.{List, [], ◌∷◌, ◌++◌, append-nil}
-use lib.Dec.{leb}
-use lib.IntN.{ℤ}
 use lib.ListN.{length, take, replicate, length-append}
 use borrow.Author.Tests.{le-leb, lt-leb}
 use Rattle.rules.specs.Places.{pick}
 use Rattle.rules.specs.Figures.{decimal_of}
-use Rattle.rules.specs.Kinds.{coordinate}
-use Rattle.rules.specs.Spelled.{padded, with_point, water_figures, spelled_as}
-use Rattle.fields.specs.Paper.{kind}
-use Rattle.fields.specs.declared.Kind.{Kind}
+use Rattle.rules.specs.Spelled.{padded, with_point, water_figures}
 use Rattle.texts.specs.Buffer.{Adds}
 use Rattle.texts.proofs.Adding.{then, starts}
 use Rattle.rules.specs.Carried.{bytes_of}
 use Rattle.writer.specs.Coded.{text_of}
-use Rattle.writer.specs.Texts.{Signs, sign_of, Starts, coordinate_of}
-use Rattle.writer.proofs.Signed.{sign_is}
+use mir.ValLaws.{to_z-of_z}
+use Rattle.writer.specs.Texts.{sign_of, Starts, coordinate_of}
+use Rattle.writer.proofs.Signed.{by_sign_is}
 
 pub adds_nothing : (a : List ℕ) (n : ℕ) → Adds a n [] a n
 adds_nothing a n = record { ends = sym (add-zero n); front = sym (append-nil (take n a)); rest = refl }
@@ -65,13 +61,7 @@ unfolding water_figures pick
 water_metres n h = rw (lt-leb n 999 h)
 
 -- by the rule of the field
-pub by_kind : {k r : Kind} {t : List ℕ} (w : ℕ) (z : ℤ) → k ≡ r → spelled_as (kind r) w z ≡ t → t ≡ spelled_as (kind k) w z
-by_kind w z e f = sym (ap (λ (k : Kind). spelled_as (kind k) w z) e ∙ f)
-
-pub coordinate_is : (w : ℕ) (z : ℤ) (t : Bool) (n : ℕ) → Signs z t n → spelled_as coordinate w z ≡ coordinate_of w t n
-unfolding spelled_as coordinate_of
-coordinate_is w z t n s =
-    ap₂ (λ (p d : List ℕ). pick (leb (length p) w) p d) (sign_is with_point z t n s) (sign_is decimal_of z t n s)
+pub ruleset figures = (to_z-of_z, started, by_sign_is)
 
 -- the bytes of a number
 pub bytes_one : (n v : ℕ) → 1 ≤ n → n ≤ 1 → bytes_of n v ≡ v ∷ []

@@ -23,6 +23,7 @@ use Rattle.texts.specs.Buffer.{Adds}
 use Rattle.texts.proofs.Adding.{then, starts}
 use Rattle.writer.specs.Coded.{value_of, values_of}
 use Rattle.writer.specs.Columns.{columns_to}
+use Rattle.std.specs.Prelude.{Option}
 use Rattle.writer.specs.declared.values.Value.{Value}
 
 abbrev follows : List Row → ℕ → Bool
@@ -51,13 +52,13 @@ columns_more (w ∷ ws) zero h = refl
 columns_more (w ∷ ws) (suc j) h = rw (columns_more ws j (omega arith)) (omega arith)
 
 -- the values of the rows
-values_length : (ws : List Row) (vs : List Value) → length ws ≤ length vs → length (values_of ws vs) ≡ length ws
+values_length : (ws : List Row) (vs : List (Option Value)) → length ws ≤ length vs → length (values_of ws vs) ≡ length ws
 unfolding values_of
 values_length [] vs h = refl
 values_length (w ∷ ws) [] h = absurd (omega arith)
 values_length (w ∷ ws) (v ∷ vs) h = ap suc (values_length ws vs (omega arith))
 
-value_at_lem : (d : Value) (ws : List Row) (vs : List Value) (j : ℕ) → j < length ws → length ws ≤ length vs
+value_at_lem : (d : Option Value) (ws : List Row) (vs : List (Option Value)) (j : ℕ) → j < length ws → length ws ≤ length vs
     → get_or (values_of ws vs) j nothing ≡ value_of (width_of (get_or ws j no_row).columns) (get_or vs j d)
 unfolding values_of
 value_at_lem d [] vs j h g = absurd (omega arith)
@@ -85,7 +86,7 @@ unfolding writable
 writable_more ws xs j h g = rw (add-one j, drop-cons ws j no_row h, drop-cons xs j nothing g)
 
 -- the loop over a table
-module _ (t : Table) (vs : List Value) (n : length vs ≡ 14) (d : Value) where
+module _ (t : Table) (vs : List (Option Value)) (n : length vs ≡ 14) (d : Option Value) where
   abbrev ws : List Row
   ws = rows_of t
 
@@ -159,3 +160,14 @@ line_is b ws xs e {l} {l₁} {l₂} {l₃} {i} {m} p q r n =
     let w = starts (then (rw o at p) (then (rw e at q) r)) in
     let k : m ≡ length l₃ = omega (arith, r.ends) in
     sym (ap (λ (j : ℕ). take j l₃) k ∙ take-length l₃) ∙ w.0
+
+-- the fields of a line end in column 80
+pub point_end : (i : ℕ) → columns_to (point_rows sps93 i) ≡ 80
+unfolding point_rows sps93 columns_to
+point_end i = refl
+
+pub relation_end : columns_to (relation_rows sps93) ≡ 80
+unfolding relation_rows sps93 columns_to
+relation_end = refl
+
+pub ruleset ends = (point_end, relation_end)

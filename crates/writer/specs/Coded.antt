@@ -3,7 +3,7 @@
 --   point_of p, relation_of q = the paper's values of the code's
 --   value_of w v      = the value of a field of w columns
 --   values_of ws vs   = those of the fields of a table
-use Rattle.std.specs.Prelude.{ℕ, ◌-◌, List, [], ◌∷◌, ◌++◌, leb}
+use Rattle.std.specs.Prelude.{ℕ, ◌-◌, List, [], ◌∷◌, ◌++◌, leb, ℤ, Option, Some, None}
 use Rattle.rules.specs.Places.{pick}
 use Rattle.rules.specs.Names.{Name as PaperName, text as named}
 use Rattle.rules.specs.Points.{Held as PaperHeld, absent, held, State as PaperState, live, killed, marker, Point as PaperPoint}
@@ -13,15 +13,13 @@ use Rattle.rules.specs.Values.{Value as PaperValue, text, number, nothing}
 use Rattle.rules.specs.Writer.{width_of}
 use Rattle.rules.specs.Carried.{bytes_of}
 use Rattle.fields.specs.declared.Name.{Name}
-use Rattle.records.specs.declared.point.Held.{Held}
-use Rattle.records.specs.declared.point.Held.TheVariants as held_cases
 use Rattle.records.specs.declared.point.Point.{Point}
 use Rattle.records.specs.declared.state.State.{State}
 use Rattle.records.specs.declared.state.State.TheVariants.{Live, Killed, Marker}
 use Rattle.records.specs.declared.relation.Reach.{Reach}
 use Rattle.records.specs.declared.relation.Relation.{Relation}
 use Rattle.writer.specs.declared.values.Value.{Value}
-use Rattle.writer.specs.declared.values.Value.TheVariants.{Text, Number, Nothing}
+use Rattle.writer.specs.declared.values.Value.TheVariants.{Text, Number}
 
 unfoldable pub text_of : ℕ → ℕ → ℕ → List ℕ
 text_of w hi lo = pick (leb w 8) (bytes_of w lo) (bytes_of (w - 8) hi ++ bytes_of 8 lo)
@@ -29,9 +27,9 @@ text_of w hi lo = pick (leb w 8) (bytes_of w lo) (bytes_of (w - 8) hi ++ bytes_o
 abbrev pub name_in : Name → PaperName
 name_in m = named (text_of 16 m.hi m.lo)
 
-abbrev pub held_in : Held → PaperHeld
-held_in held_cases.Absent = absent
-held_in (held_cases.Value n) = held n
+abbrev pub held_in : Option ℤ → PaperHeld
+held_in None = absent
+held_in (Some n) = held n
 
 abbrev pub state_in : State → PaperState
 state_in Live = live
@@ -83,12 +81,12 @@ relation_of v =
       reach = reach_of v.reach;
     }
 
-abbrev pub value_of : ℕ → Value → PaperValue
-value_of w (Text hi lo) = text (text_of w hi lo)
-value_of w (Number n) = number n
-value_of w Nothing = nothing
+abbrev pub value_of : ℕ → Option Value → PaperValue
+value_of w (Some (Text m)) = text (text_of w m.hi m.lo)
+value_of w (Some (Number n)) = number n
+value_of w None = nothing
 
-unfoldable pub values_of : List Row → List Value → List PaperValue
+unfoldable pub values_of : List Row → List (Option Value) → List PaperValue
 values_of [] vs = []
 values_of (w ∷ ws) [] = []
 values_of (w ∷ ws) (v ∷ vs) = value_of (width_of w.columns) v ∷ values_of ws vs

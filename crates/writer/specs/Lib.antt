@@ -3,3 +3,4 @@ pub mod Texts
 pub mod Columns
 pub mod Said
 pub mod Given
+pub mod Made

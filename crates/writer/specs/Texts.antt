@@ -1,25 +1,15 @@
 -- A number's sign and its text, and what stands at the start of a buffer.
---   minus_of z        = it is below 0
---   Signs z t n      = t says that it is below 0, and n is its size
 --   sign_of t         = the minus, or nothing
 --   coordinate_of w t n = tenths with their point, or without it where w columns are too few
 --   Starts b t n     = the first n bytes of b are t
 --   all_printed bs    = printable bytes alone
 --   Narrow w hi lo   = the numbers of a text of w columns have no more bytes than that
-use Rattle.std.specs.Prelude.{ℕ, ◌-◌, ◌^◌, ◌≤◌, ◌<◌, ◌≡◌, Bool, true, false, List, [], ◌∷◌, ◌++◌, ℤ, pos, negsuc, nat_abs, leb, length, take, get_or}
+use Rattle.std.specs.Prelude.{ℕ, ◌-◌, ◌^◌, ◌≤◌, ◌<◌, ◌≡◌, Bool, true, false, List, [], ◌∷◌, ◌++◌, leb, length, take, get_or}
 use Prim.Native.Char.{code as ascii}
 use Rattle.rules.specs.Places.{pick, every}
 use Rattle.rules.specs.Disc.{printable}
 use Rattle.rules.specs.Figures.{decimal_of}
 use Rattle.rules.specs.Spelled.{with_point}
-
-abbrev pub minus_of : ℤ → Bool
-minus_of (pos n) = false
-minus_of (negsuc n) = true
-
-pub record Signs (z : ℤ) (t : Bool) (n : ℕ) : Type 0 where
-  pub minus : minus_of z ≡ t
-  pub size : nat_abs z ≡ n
 
 abbrev pub sign_of : Bool → List ℕ
 sign_of true = ascii "-" ∷ []

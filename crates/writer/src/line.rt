@@ -7,6 +7,7 @@ ghost use Rattle.records.specs.Coded.{row_of, rows_of};
 ghost use Rattle.texts.specs.Buffer.{Adds};
 ghost use Rattle.writer.specs.Coded.{value_of, values_of};
 ghost use Rattle.writer.specs.Columns.{columns_to};
+ghost use Rattle.writer.specs.Made.{made};
 
 use crate::values::Value;
 use crate::{allowed, rows, spell};
@@ -14,7 +15,7 @@ use records::table;
 use records::table::{Row, Table};
 
 // Puts a value into the columns of its field, right justified, where they take it.
-fn field(w: Row, v: Value, line: &mut [u8; 82]) -> bool
+fn field(w: Row, v: Option<Value>, line: &mut [u8; 82]) -> bool
     requires { sized w.kind w.first w.last ≡ true }
     ensures goes { result ≡ goes_into (row_of w).kind (width_of (row_of w).columns) (value_of (width_of (row_of w).columns) v) }
     ensures put { result ≡ true → Adds line.old (w.first - 1)
@@ -35,33 +36,28 @@ fn field(w: Row, v: Value, line: &mut [u8; 82]) -> bool
 }
 
 // Puts each value into its field, after the letter; false at the first that its columns do not take.
-fn fields(t: Table, vs: [Value; 14], line: &mut [u8; 82]) -> bool
+fn fields(t: Table, vs: [Option<Value>; 14], line: &mut [u8; 82]) -> bool
     ensures goes { result ≡ writable (rows_of t) (values_of (rows_of t) vs) }
     ensures put { result ≡ true → Adds line.old 1 (joined (rows_of t) (values_of (rows_of t) vs)) line.new (columns_to (rows_of t)) }
 {
-    let n = table::row_count(t);
-    let mut j = 0;
-    while j < n {
-        let w = table::row_at(t, j);
-        let v = vs[j];
-        if !field(w, v, line) {
+    for j in 0..table::row_count(t) {
+        if !field(table::row_at(t, j), vs[j], line) {
             return false;
         }
-        j += 1;
     }
     true
 }
 
-// The 82 bytes of a line, of a table whose fields end in column 80.
-pub fn line_of(letter: u8, t: Table, vs: [Value; 14], line: &mut [u8; 82]) -> bool
+// The 82 bytes of a line, of a table whose fields end in column 80; none where its columns do not take the values.
+pub fn line_of(letter: u8, t: Table, vs: [Option<Value>; 14]) -> Option<[u8; 82]>
     requires { columns_to (rows_of t) ≡ 80 }
-    ensures goes { result ≡ writable (rows_of t) (values_of (rows_of t) vs) }
-    ensures line { result ≡ true → line.new ≡ line_of letter (rows_of t) (values_of (rows_of t) vs) }
+    ensures value { result ≡ made (writable (rows_of t) (values_of (rows_of t) vs)) (line_of letter (rows_of t) (values_of (rows_of t) vs)) }
 {
-    texts::byte(letter, line, 0);
-    if !fields(t, vs, line) {
-        return false;
+    let mut line = [0u8; 82];
+    texts::byte(letter, &mut line, 0);
+    if !fields(t, vs, &mut line) {
+        return None;
     }
-    texts::add(b"\r\n", line, 80);
-    true
+    texts::add(b"\r\n", &mut line, 80);
+    Some(line)
 }

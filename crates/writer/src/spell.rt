@@ -1,5 +1,5 @@
 // The text of a value, without the blanks before it, at the start of a small buffer: digits, tenths, bytes.
-ghost use Rattle.std.specs.Prelude.{◌≡◌, true, ◌++◌, ◌+◌, ◌^◌, ◌≤◌, ◌<◌, ℤ, length};
+ghost use Rattle.std.specs.Prelude.{◌≡◌, true, ◌++◌, ◌+◌, ◌^◌, ◌≤◌, ◌<◌, length};
 ghost use Rattle.rules.specs.Figures.{decimal_of};
 ghost use Rattle.rules.specs.Spelled.{padded, with_point, water_figures, spelled_as, spelled, allows};
 ghost use Rattle.rules.specs.Writer.{width_of};
@@ -8,11 +8,11 @@ ghost use Rattle.records.specs.Coded.{row_of};
 ghost use Rattle.texts.specs.Buffer.{Adds};
 ghost use Rattle.rules.specs.Carried.{bytes_of};
 ghost use Rattle.writer.specs.Coded.{text_of, value_of};
-ghost use Rattle.writer.specs.Texts.{Signs, sign_of, Starts, Narrow, coordinate_of};
+ghost use Rattle.writer.specs.Texts.{sign_of, Starts, Narrow, coordinate_of};
 
+use crate::rows;
 use crate::values::Value;
-use crate::{rows, signs};
-use fields::Kind;
+use fields::{Kind, Name};
 use records::table::Row;
 
 // Adds the minus of a number below 0.
@@ -22,9 +22,10 @@ fn sign(minus: bool, out: &mut [u8; 40], at: usize) -> usize
     ensures small { result ≤ at + 1 }
 {
     if minus {
-        return texts::byte(b'-', out, at);
+        texts::byte(b'-', out, at)
+    } else {
+        at
     }
-    at
 }
 
 // Adds a whole number.
@@ -51,10 +52,7 @@ fn coordinate(w: usize, minus: bool, n: u64, out: &mut [u8; 40]) -> usize
     ensures starts { Starts out.new (coordinate_of w minus n) result }
 {
     let m = tenths(minus, n, out);
-    if m <= w {
-        return m;
-    }
-    whole(minus, n, out, 0)
+    if m <= w { m } else { whole(minus, n, out, 0) }
 }
 
 // A number with zeros before it, w columns in all.
@@ -75,28 +73,28 @@ fn water(minus: bool, n: u64, out: &mut [u8; 40]) -> usize
     ensures added { Adds out.old 0 (sign_of minus ++ water_figures n) out.new result }
 {
     if n <= 999 {
-        return tenths(minus, n, out);
+        tenths(minus, n, out)
+    } else {
+        whole(minus, n / 10, out, 0)
     }
-    whole(minus, n / 10, out, 0)
 }
 
 // A number by the rule of its field.
-fn figures(k: Kind, w: usize, minus: bool, n: u64, out: &mut [u8; 40]) -> usize
+#[tactic(auto, using(crate::proofs::Spelling::figures), unfolding(rules::specs::Spelled::spelled_as, crate::specs::Texts::coordinate_of))]
+fn figures(k: Kind, w: usize, n: i64, out: &mut [u8; 40]) -> usize
     requires { w ≤ 16 }
-    ensures starts { (z : ℤ) → Signs z minus n → Starts out.new (spelled_as (kind k) w z) result }
+    ensures starts { Starts out.new (spelled_as (kind k) w n) result }
 {
+    let minus = n.is_negative();
+    let size = n.unsigned_abs();
     match k {
-        Kind::StartsNonBlank => whole(minus, n, out, 0),
-        Kind::DigitsOnly => whole(minus, n, out, 0),
-        Kind::Coordinate => coordinate(w, minus, n, out),
-        Kind::Index => whole(minus, n, out, 0),
-        Kind::WaterDepth => water(minus, n, out),
-        Kind::Time => clock(w, minus, n, out),
-        Kind::WholeNumber(_, _) => whole(minus, n, out, 0),
-        Kind::SignedNumber(_, _) => whole(minus, n, out, 0),
-        Kind::SignedDecimal(_, _) => tenths(minus, n, out),
-        Kind::DecimalNumber(_) => tenths(minus, n, out),
-        Kind::Code(_) => whole(minus, n, out, 0),
+        Kind::Coordinate => coordinate(w, minus, size, out),
+        Kind::WaterDepth => water(minus, size, out),
+        Kind::Time => clock(w, minus, size, out),
+        Kind::SignedDecimal(_, _) | Kind::DecimalNumber(_) => tenths(minus, size, out),
+        Kind::StartsNonBlank | Kind::DigitsOnly | Kind::Code(_) => whole(minus, size, out, 0),
+        Kind::Index => whole(minus, size, out, 0),
+        Kind::WholeNumber(_, _) | Kind::SignedNumber(_, _) => whole(minus, size, out, 0),
     }
 }
 
@@ -113,28 +111,27 @@ fn bytes(n: usize, v: u64, out: &mut [u8], at: usize) -> usize
 }
 
 // The w bytes of a text.
-fn letters(w: usize, hi: u64, lo: u64, out: &mut [u8; 40]) -> usize
-    requires { ((1 ≤ w) × (w ≤ 16)) × Narrow w hi lo }
-    ensures added { Adds out.old 0 (text_of w hi lo) out.new result }
+fn letters(w: usize, m: Name, out: &mut [u8; 40]) -> usize
+    requires { ((1 ≤ w) × (w ≤ 16)) × Narrow w m.hi m.lo }
+    ensures added { Adds out.old 0 (text_of w m.hi m.lo) out.new result }
 {
     if w <= 8 {
-        return bytes(w, lo, out, 0);
+        return bytes(w, m.lo, out, 0);
     }
-    let m = bytes(w - 8, hi, out, 0);
-    bytes(8, lo, out, m)
+    let at = bytes(w - 8, m.hi, out, 0);
+    bytes(8, m.lo, out, at)
 }
 
 // The text of a value that its field's rule allows.
-pub fn text(w: Row, v: Value, out: &mut [u8; 40]) -> usize
+#[tactic(auto, using(crate::proofs::Ruled::texts), unfolding(rules::specs::Spelled::spelled))]
+pub fn text(w: Row, v: Option<Value>, out: &mut [u8; 40]) -> usize
     requires last_value { sized w.kind w.first w.last ≡ true }
     requires v_value { allows (row_of w).kind (value_of (width_of (row_of w).columns) v) ≡ true }
     ensures starts { Starts out.new (spelled (row_of w).kind (width_of (row_of w).columns) (value_of (width_of (row_of w).columns) v)) result }
 {
-    let k = w.kind;
-    let n = rows::width(w);
     match v {
-        Value::Text(hi, lo) => letters(n, hi, lo, out),
-        Value::Number(z) => figures(k, n, signs::is_minus(z), signs::size(z), out),
-        Value::Nothing => 0,
+        None => 0,
+        Some(Value::Text(m)) => letters(rows::width(w), m, out),
+        Some(Value::Number(n)) => figures(w.kind, rows::width(w), n, out),
     }
 }

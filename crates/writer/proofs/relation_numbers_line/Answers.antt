@@ -1,32 +1,21 @@
 -- What `writer::relation_numbers_line` leaves to show.
-use mathlib.Core.Path.{refl, ap, ◌∙◌}
-use Rattle.rules.specs.Layout.{sps93}
-use Rattle.rules.specs.Rows.{relation_rows}
-use Rattle.rules.specs.Writer.{writable}
-use Rattle.rules.proofs.Tests.{clash}
+use Rattle.std.proofs.Common.{ℕ, arith, get_or}
+use Rattle.std.proofs.lemmas.Grind.{common_steps}
 use Rattle.records.specs.Coded.{rows_of}
-use Rattle.writer.specs.Columns.{columns_to}
-use Rattle.writer.proofs.Given.{goes_not, goes_counted, reach_text}
+use Rattle.writer.proofs.Given.{takes_is, text_is}
 use Rattle.writer.proofs.relation_numbers_line.Goals as goal
 
-pub line_of-requires : goal.line_of-requires
-unfolding rows_of relation_rows sps93 columns_to
-line_of-requires c = refl
-
-pub returns-then-not-line_of : goal.returns-then-not-line_of
+pub returns-then-counted : goal.returns-then-counted
 unfolding rows_of
-returns-then-not-line_of c = let r = c.relation.ensures.value in
-    record {
-      goes = goes_not _ _ (c.line_of.ensures.goes ∙ ap (writable (relation_rows sps93)) r) c.if-not-line_of.true;
-      line = λ e. clash e;
-    }
+returns-then-counted c = record {
+  value = let v : ℕ → ℕ = λ k. get_or c.args.v k 0 in
+      let t = takes_is v _ c.reach.ensures.value in
+      let x = text_is v in
+      grind (arith, common_steps);
+}
 
-pub returns : goal.returns
-unfolding rows_of
-returns c = let l = c.line_of.ensures in
-    let r = c.relation.ensures.value in
-    let y = c.if-not-line_of.false in
-    record {
-      goes = goes_counted _ _ (l.goes ∙ ap (writable (relation_rows sps93)) r) y _ c.reach.ensures.value _ c.counted.ensures.value;
-      line = λ e. l.line y ∙ reach_text _ _ r;
-    }
+pub returns-else-counted : goal.returns-else-counted
+returns-else-counted c = record {
+  value = let t = takes_is (λ k. get_or c.args.v k 0) _ c.reach.ensures.value in
+      grind (arith, common_steps);
+}

@@ -1,7 +1,5 @@
--- What the loops of `writer::line::fields` keep.
-use Prim.Native.Nat.{◌-◌, ◌≤◌}
-use mathlib.Core.Path.{◌≡◌}
-use lib.ListN.{take, drop}
+-- What the loop of `writer::line::fields` keeps.
+use Rattle.std.proofs.Common.{◌≡◌, take, drop}
 use Rattle.rules.specs.Writer.{joined, writable}
 use Rattle.records.specs.Coded.{rows_of}
 use Rattle.texts.specs.Buffer.{Adds}
@@ -10,9 +8,7 @@ use Rattle.writer.specs.Columns.{columns_to}
 use Rattle.writer.proofs.line.fields.Given as goal
 
 abbrev pub invariant-loop-j : goal.invariant-loop-j
-invariant-loop-j l = (l.j ≤ l.n)
-    × ((writable (drop l.j (rows_of l.t)) (drop l.j (values_of (rows_of l.t) l.vs)) ≡ writable (rows_of l.t) (values_of (rows_of l.t) l.vs))
-    × Adds l.initial.line 1 (joined (take l.j (rows_of l.t)) (take l.j (values_of (rows_of l.t) l.vs))) l.line (columns_to (take l.j (rows_of l.t))))
-
-abbrev pub decreases-loop-j : goal.decreases-loop-j
-decreases-loop-j l = l.n - l.j
+invariant-loop-j l = record {
+  rest : writable (drop l.j (rows_of l.t)) (drop l.j (values_of (rows_of l.t) l.vs)) ≡ writable (rows_of l.t) (values_of (rows_of l.t) l.vs);
+  put : Adds l.initial.line 1 (joined (take l.j (rows_of l.t)) (take l.j (values_of (rows_of l.t) l.vs))) l.line (columns_to (take l.j (rows_of l.t)));
+}

@@ -1,31 +1,28 @@
 -- What `writer::numbers::relation` leaves to show.
 use mathlib.Core.List.{[], ◌∷◌}
-use lib.ListN.{get_or}
 use Rattle.rules.specs.Places.{pick}
 use Rattle.rules.specs.Layout.{sps93}
 use Rattle.rules.specs.Rows.{relation_rows}
-use Rattle.rules.specs.Values.{text}
 use Rattle.rules.specs.Carried.{relation_given}
-use Rattle.writer.specs.Coded.{text_of, value_of, values_of}
+use Rattle.writer.specs.Coded.{text_of, values_of}
 use Rattle.writer.proofs.numbers.relation.Goals as goal
 
 pub returns : goal.returns
 unfolding values_of relation_rows sps93 relation_given text_of pick
 returns c = record {
-  value = let v = c.args.v in
-      λ k.
-      text (text_of 6 0 (get_or v 0 0))
-      ∷ value_of 4 (c.count.ensures.value k)
-      ∷ value_of 1 (c.count-2.ensures.value k)
-      ∷ value_of 1 (c.count-3.ensures.value k)
-      ∷ text (text_of 16 (get_or v 4 0) (get_or v 5 0))
-      ∷ value_of 8 (c.count-4.ensures.value k)
-      ∷ value_of 1 (c.count-5.ensures.value k)
-      ∷ value_of 4 (c.count-6.ensures.value k)
-      ∷ value_of 4 (c.count-7.ensures.value k)
-      ∷ value_of 1 (c.count-8.ensures.value k)
-      ∷ text (text_of 16 (get_or v 11 0) (get_or v 12 0))
-      ∷ value_of 8 (c.count-9.ensures.value k)
-      ∷ value_of 8 (c.count-10.ensures.value k)
-      ∷ value_of 1 (c.count-11.ensures.value k) ∷ [];
+  value = λ k.
+      c.short.ensures.value 6 k
+      ∷ c.count.ensures.value 4 k
+      ∷ c.count-2.ensures.value 1 k
+      ∷ c.count-3.ensures.value 1 k
+      ∷ c.name.ensures.value 16 k
+      ∷ c.count-4.ensures.value 8 k
+      ∷ c.count-5.ensures.value 1 k
+      ∷ c.count-6.ensures.value 4 k
+      ∷ c.count-7.ensures.value 4 k
+      ∷ c.count-8.ensures.value 1 k
+      ∷ c.name-2.ensures.value 16 k
+      ∷ c.count-9.ensures.value 8 k
+      ∷ c.count-10.ensures.value 8 k
+      ∷ c.count-11.ensures.value 1 k ∷ [];
 }

@@ -8,8 +8,8 @@ returns-then-m-w c = record {
       coordinate_short a.w a.minus a.n c.tenths-m.ensures.added c.if-m-w.true;
 }
 
-pub returns : goal.returns
-returns c = record {
+pub returns-else-m-w : goal.returns-else-m-w
+returns-else-m-w c = record {
   starts = let a = c.args in
       coordinate_long a.w a.minus a.n c.tenths-m.ensures.added c.if-m-w.false c.whole.ensures.added;
 }

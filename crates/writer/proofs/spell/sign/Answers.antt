@@ -9,8 +9,8 @@ returns-then-minus c = record {
   small = omega (arith, c.byte.ensures.added.ends);
 }
 
-pub returns : goal.returns
-returns c = record {
+pub returns-else-minus : goal.returns-else-minus
+returns-else-minus c = record {
   added = rw c.if-minus.false (adds_nothing c.args.out.now c.args.at);
   small = omega arith;
 }

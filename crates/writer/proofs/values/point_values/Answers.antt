@@ -8,7 +8,7 @@ use borrow.Author.Rules.{rules}
 use Rattle.rules.specs.Layout.{sps93}
 use Rattle.rules.specs.Rows.{point_rows}
 use Rattle.rules.specs.Values.{text, number, point_values}
-use Rattle.writer.specs.Coded.{text_of, point_of, value_of, values_of}
+use Rattle.writer.specs.Coded.{text_of, point_of, values_of}
 use Rattle.writer.proofs.values.point_values.Goals as goal
 
 pub returns : goal.returns
@@ -22,9 +22,9 @@ returns c = record {
       let elevation : to_z w64 (of_z w64 a.elevation) ≡ a.elevation = to_z-of_z w64 a.elevation (search rules) in
       λ i k.
       text (text_of 16 a.name.hi a.name.lo)
-      ∷ value_of 8 (c.count.ensures.value k)
-      ∷ value_of 1 (c.count-2.ensures.value k)
-      ∷ text (text_of 2 0 a.code)
+      ∷ c.count.ensures.value 8 k
+      ∷ c.count-2.ensures.value 1 k
+      ∷ c.short.ensures.value 2 k
       ∷ c.held.ensures.value 4 k
       ∷ number (depth k)
       ∷ number (datum k)
@@ -33,6 +33,6 @@ returns c = record {
       ∷ number (easting k)
       ∷ number (northing k)
       ∷ number (elevation k)
-      ∷ value_of 3 (c.count-3.ensures.value k)
-      ∷ value_of 6 (c.count-4.ensures.value k) ∷ [];
+      ∷ c.count-3.ensures.value 3 k
+      ∷ c.count-4.ensures.value 6 k ∷ [];
 }
