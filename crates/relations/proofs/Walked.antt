@@ -36,8 +36,9 @@ use Rattle.order.specs.Repeat.{repeats}
 use Rattle.mates.specs.Records.{goes_on, start_of}
 use Rattle.mates.proofs.Start.{start_is, start_below, start_lines, own}
 use Rattle.mates.proofs.Sixteen.{not_apart}
-use Rattle.shots.specs.Places.{onward, place_before, shot_found, Missed}
-use Rattle.shots.proofs.Places.{found_fine, place_next, gone, gone_before}
+use Rattle.std.specs.Prelude.{Some, None}
+use Rattle.shots.specs.Places.{onward, line_in, place_before, shot_found, Missed}
+use Rattle.shots.proofs.Places.{in_found, in_none, found_fine, place_next, gone, gone_before}
 use Rattle.once.specs.Covered.{Lines}
 use Rattle.once.specs.Marks.{pairs, Below, Kept}
 use Rattle.relations.specs.Walk.{Waiting, Begun}
@@ -132,37 +133,36 @@ module _ (r : Sheet) (o : List ℕ) (s x : Sheet) (apart : ℕ) (t₀ : List ℕ
     line = (h, w.relate k (omega arith) h)
 
     -- the shot
-    module _ (q : ℕ) (e : q ≡ onward s x k place) where
-      from_there : q ≡ onward s x k (place_before s x k)
-      from_there = e ∙ ap (onward s x k) w.shot
+    from_there : onward s x k place ≡ onward s x k (place_before s x k)
+    from_there = ap (onward s x k) w.shot
 
-      pub missing_here : q ≡ s.count → Missed s x k
-      missing_here z = record { shots = b.shots; relations = b.relations; line = line; gone = sym from_there ∙ z }
-
-      pub refuses : q ≡ s.count → (v : Refusal) × (refused v ≡ run (shot_found s x k))
-      refuses z =
-          yes_no (ltb (onward s x k 0) s.count)
-          (λ u. (
-            № 14 3 (k + 1) x.layout.source.first,
-            gone_before s x b.shots k _ refl (sym from_there ∙ z) _ refl (ltb-true _ _ u),
-          ))
-          (λ u. (
-            № 13 3 (k + 1) x.layout.source.first,
-            gone s x b.shots k _ refl (sym from_there ∙ z) _ refl (λ g. u (lt-ltb _ _ g)),
-          ))
-
-      inside_s : (q ≡ s.count → ⊥) → q < s.count
+    module _ (n : None ≡ line_in s.count (onward s x k place)) where
+      gone_from : onward s x k (place_before s x k) ≡ s.count
       unfolding onward
-      inside_s n = let l = least_below s.count _ in let z = e in below q s.count (rw e l) n
-        where
-          below : (m n : ℕ) → m ≤ n → (m ≡ n → ⊥) → m < n
-          below m n l d = omega arith
+      gone_from =
+          let l : onward s x k place ≤ s.count = least_below s.count _ in
+          let g : onward s x k place < s.count → ⊥ = in_none _ _ n in
+          let z : onward s x k place ≡ s.count = omega arith in
+          sym from_there ∙ z
 
-      pub shot_fine : (q ≡ s.count → ⊥) → fine ≡ run (shot_found s x k)
-      shot_fine n = found_fine s x b.shots k q from_there (inside_s n)
+      pub missing_here : Missed s x k
+      missing_here = record { shots = b.shots; relations = b.relations; line = line; gone = gone_from }
 
-      pub shot_next : (q ≡ s.count → ⊥) → q ≡ place_before s x (k + 1)
-      shot_next n = place_next s x b.shots k q from_there (inside_s n) line.1
+      pub refuses : (v : Refusal) × (refused v ≡ run (shot_found s x k))
+      refuses =
+          yes_no (ltb (onward s x k 0) s.count)
+          (λ u. (№ 14 3 (k + 1) x.layout.source.first, gone_before s x b.shots k _ refl gone_from _ refl (ltb-true _ _ u)))
+          (λ u. (№ 13 3 (k + 1) x.layout.source.first, gone s x b.shots k _ refl gone_from _ refl (λ g. u (lt-ltb _ _ g))))
+
+    module _ (q : ℕ) (f : Some q ≡ line_in s.count (onward s x k place)) where
+      found : (q ≡ onward s x k (place_before s x k)) × (q < s.count)
+      found = let z = in_found _ _ q f in (z.0 ∙ from_there, z.1)
+
+      pub shot_fine : fine ≡ run (shot_found s x k)
+      shot_fine = found_fine s x b.shots k q found.0 found.1
+
+      pub shot_next : q ≡ place_before s x (k + 1)
+      shot_next = place_next s x b.shots k q found.0 found.1 line.1
 
     -- where the record begins
     module _ (on : Bool) (eo : on ≡ goes_on x k) (a : ℕ) (ea : a ≡ pick on start k) where

@@ -44,28 +44,17 @@ pub fn relations_fit(
     ensures verdict { paper result ≡ run (all_relate (sheet_of how r.now) (sheet_of how s.now) (sheet_of how x.now)) }
 {
     once::clear(t);
-    let end = lines::line_count(how, x);
-    let none = lines::line_count(how, s);
-    let mut k = headers::heads(how, x);
     let mut place = 0;
     let mut start = 0;
-    while k < end {
-        let j = shots::onward(how, s, x, k, place);
-        if j == none {
+    for k in headers::heads(how, x)..lines::line_count(how, x) {
+        let Some(j) = shots::onward(how, s, x, k, place) else {
             return shots::missing(how, s, x, k);
-        }
+        };
         let on = mates::goes_on(how, x, k);
-        let v = mates::record_fits(how, x, k, apart, on);
-        if let Verdict::Refused(_, _, _, _) = v {
-            return v;
-        }
+        mates::record_fits(how, x, k, apart, on)?;
         start = mates::starts(on, start, k);
-        let u = reach_fits(how, r, o, x, start, k, t);
-        if let Verdict::Refused(_, _, _, _) = u {
-            return u;
-        }
+        reach_fits(how, r, o, x, start, k, t)?;
         place = j;
-        k += 1;
     }
-    Verdict::Fine
+    Ok(())
 }
