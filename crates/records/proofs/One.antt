@@ -11,10 +11,6 @@ use Rattle.records.specs.contracts.cover.traces as traces
 use Rattle.records.proofs.cover.traces.Reads as traces_reads
 use Rattle.records.specs.contracts.cover.carries as carries
 use Rattle.records.proofs.cover.carries.Reads as carries_reads
-use Rattle.records.specs.contracts.cover.lower as lower
-use Rattle.records.proofs.cover.lower.Reads as lower_reads
-use Rattle.records.specs.contracts.cover.higher as higher
-use Rattle.records.proofs.cover.higher.Reads as higher_reads
 use Rattle.records.specs.contracts.cover.lowest as lowest
 use Rattle.records.proofs.cover.lowest.Reads as lowest_reads
 use Rattle.records.specs.contracts.cover.highest as highest
@@ -116,12 +112,6 @@ receiver_on_one κs a v v' w w' p p' = (one_value a.0 _ v v' p p', refl)
 
 pub covers_one : One covers.ended covers_reads.Post
 covers_one κs a v v' w w' p p' = (one_value a.0 _ v v' p p', refl)
-
-pub lower_one : One lower.ended lower_reads.Post
-lower_one κs a v v' w w' = alike
-
-pub higher_one : One higher.ended higher_reads.Post
-higher_one κs a v v' w w' = alike
 
 pub lowest_one : One lowest.ended lowest_reads.Post
 lowest_one κs a v v' w w' p p' = (one_value a.0 _ v v' p.0 p'.0, refl)

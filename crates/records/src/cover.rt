@@ -26,20 +26,6 @@ pub fn carries(q: Reach, c: u64) -> bool
     q.from as u64 <= c && c <= q.upto as u64
 }
 
-// The lower of two numbers.
-pub fn lower(m: u64, n: u64) -> u64
-    ensures value { result ≡ min m n }
-{
-    m.min(n)
-}
-
-// The higher of two numbers.
-pub fn higher(m: u64, n: u64) -> u64
-    ensures value { result ≡ max m n }
-{
-    m.max(n)
-}
-
 // The lowest receiver number.
 pub fn lowest(q: Reach) -> u64
     ensures value { (p : PaperReach) → q ≡ coded_reach p → result ≡ lowest_of p }
