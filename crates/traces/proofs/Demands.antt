@@ -25,10 +25,8 @@ use Rattle.rules.proofs.Medium.{askable}
 use Rattle.lines.specs.Reading.{medium_of, sheet_of}
 use Rattle.lines.specs.declared.Reading.{Reading}
 use Rattle.lines.proofs.Sheets.{lawful}
-use Rattle.traces.specs.declared.Answer.{Answer}
-use Rattle.traces.specs.declared.Answer.TheVariants.{Trace, Channel}
-use Rattle.traces.specs.declared.Spread.TheVariants.{Highest}
-use Rattle.traces.specs.Paper.{paper}
+use Rattle.std.specs.Prelude.{Ok, Some}
+use Rattle.traces.specs.Paper.{Answer, ChannelAnswer, paper, paper_channel, leading}
 use Rattle.traces.specs.Calls.{lookup_on, way_back_on}
 use Rattle.traces.specs.Said.{Traced, Returned, TracesTold, Tabled}
 use Rattle.traces.proofs.Told as told
@@ -97,16 +95,16 @@ looked_up q c v (by_trace κs a w p e f) = moved _ q _ c v p e f
 abbrev back_of : Record → ℕ → ℕ → PaperAnswer
 back_of q j m = way_back_on q.how q.receivers q.shots q.relations q.tape q.number j m
 
-pub data AskedBack (q : Record) (j m : ℕ) (v : Answer) : Type 0 where
+pub data AskedBack (q : Record) (j m : ℕ) (v : ChannelAnswer) : Type 0 where
   by_channel : (κs : Lfts 4) (a : ArgsD channel.signature κs) (w : AtExit channel.ended κs) → channel_reads.Post κs a v w
       → asked a.0.how a.1.0.now a.1.1.0.now a.1.1.1.0.now a.1.1.1.1.0.now a.0.«record» ≡ q
       → a.1.1.1.1.1.0 ≡ j → a.1.1.1.1.1.1.0 ≡ m → AskedBack q j m v
 
-moved_back : (o q : Record) (i j l m : ℕ) (v : Answer) → paper v ≡ back_of o i l → o ≡ q → i ≡ j → l ≡ m → paper v ≡ back_of q j m
+moved_back : (o q : Record) (i j l m : ℕ) (v : ChannelAnswer) → paper_channel v ≡ back_of o i l → o ≡ q → i ≡ j → l ≡ m → paper_channel v ≡ back_of q j m
 moved_back o q i j l m v p e f g =
-    subst (λ (n : ℕ). paper v ≡ back_of q j n) g (subst (λ (n : ℕ). paper v ≡ back_of q n l) f (subst (λ (u : Record). paper v ≡ back_of u i l) e p))
+    subst (λ (n : ℕ). paper_channel v ≡ back_of q j n) g (subst (λ (n : ℕ). paper_channel v ≡ back_of q n l) f (subst (λ (u : Record). paper_channel v ≡ back_of u i l) e p))
 
-asked_back : (q : Record) (j m : ℕ) (v : Answer) → AskedBack q j m v → paper v ≡ back_of q j m
+asked_back : (q : Record) (j m : ℕ) (v : ChannelAnswer) → AskedBack q j m v → paper_channel v ≡ back_of q j m
 asked_back q j m v (by_channel κs a w p e f g) = moved_back _ q _ j _ m v p e f g
 
 module _ (q : Record) where
@@ -123,12 +121,13 @@ module _ (q : Record) where
   able = asks q.how q.receivers q.shots q.relations
 
   -- "Within a tape and record two channels never share them."
-  pub never_shared : (c d l m : ℕ) (y z : Bool) → LookedUp q c (Trace l m y) → LookedUp q d (Trace l m z) → c ≡ d
+  pub never_shared : (c d l m : ℕ) (y z : Bool) → LookedUp q c (leading l m y) → LookedUp q d (leading l m z) → c ≡ d
   never_shared c d l m y z a b =
       told.never_shared receiver_sheet shot_sheet relation_sheet able q.tape q.number c d l m y z _ _ (looked_up q c _ a) (looked_up q d _ b) refl refl
 
   -- "Asked from the receiver and component the answer is that channel", and the other way round.
-  pub there_and_back : (c l m : ℕ) (v u : Answer) → LookedUp q c v → AskedBack q l m u → ((d : Bool) × (v ≡ Trace l m d)) ↔ (u ≡ Channel c)
+  pub there_and_back : (c l m : ℕ) (v : Answer) (u : ChannelAnswer) → LookedUp q c v → AskedBack q l m u
+      → ((d : Bool) × (v ≡ leading l m d)) ↔ (u ≡ Ok (Some c))
   there_and_back c l m v u a b =
       told.forth_and_back receiver_sheet shot_sheet relation_sheet able q.tape q.number c l m v u (looked_up q c v a) (asked_back q l m u b)
 
@@ -163,7 +162,7 @@ rows_told κs a v w p =
 
 -- the table and the lookup agree: where the one says h, the place of each channel up to h has the line and component that the other answers
 pub agrees : (read : List ℕ → List ℕ) (q : Record) (d e d' e' : List ℕ) (h : ℕ)
-    → Tabled read (receiver_sheet q) (shot_sheet q) (relation_sheet q) q.tape q.number d e (Highest h) d' e'
+    → Tabled read (receiver_sheet q) (shot_sheet q) (relation_sheet q) q.tape q.number d e (Ok h) d' e'
     → (c : ℕ) → c < h → (v : Answer) → LookedUp q (c + 1) v
     → (get_or (read d') c 0 ≡ line_of (paper v)) × (get_or e' c 0 ≡ component_of (paper v))
 agrees read q d e d' e' h t c l v a =

@@ -1,13 +1,13 @@
 -- The contracts of this crate leave one outcome: any two results, and contents of the lent slices, that meet one of them are
 -- the same.
-use mathlib.Core.Path.{◌≡◌, refl, sym, ◌∙◌}
+use mathlib.Core.Path.{◌≡◌, refl, sym, ap, ◌∙◌}
 use Rattle.outcome.specs.One.{One, both, alike}
 use Rattle.sets.proofs.One.{answer_one as set_one}
-use Rattle.traces.specs.declared.Answer.{Answer}
-use Rattle.traces.specs.declared.Answer.TheVariants.{Trace, Channel, NoTrace, Refused}
-use Rattle.traces.specs.declared.Spread.{Spread}
-use Rattle.traces.specs.declared.Spread.TheVariants.{Highest, Refused as Denied}
-use Rattle.traces.specs.Paper.{paper, paper_spread}
+use Rattle.std.specs.Prelude.{Ok, Err, Some, None}
+use Rattle.lines.specs.Paper.{told}
+use Rattle.lines.proofs.One.{told_one}
+use Rattle.traces.specs.declared.Reached.{Reached}
+use Rattle.traces.specs.Paper.{Answer, ChannelAnswer, Spread, paper, paper_channel, paper_spread}
 use Rattle.traces.specs.contracts.asked.record as asked_record
 use Rattle.traces.proofs.asked.record.Reads as asked_record_reads
 use Rattle.traces.specs.contracts.asked.channel as asked_channel
@@ -31,23 +31,33 @@ use Rattle.traces.proofs.rows.Reads as rows_reads
 use Rattle.traces.specs.contracts.spread_bytes as spread_bytes
 use Rattle.traces.proofs.spread_bytes.Reads as spread_bytes_reads
 
+same_reached : (t u : Reached) → t.line ≡ u.line → t.component ≡ u.component → t.killed ≡ u.killed → t ≡ u
+same_reached t u l m d =
+    let same : ◌≡◌ {A = Reached} (record { line = t.line; component = t.component; killed = t.killed })
+    (record { line = u.line; component = u.component; killed = u.killed }) = cc in
+    same
+
 pub answer_one : (a b : Answer) → paper a ≡ paper b → a ≡ b
-answer_one (Trace l m d) (Trace l' m' d') e = cc
-answer_one (Trace l m d) (Channel c') e = cc
-answer_one (Trace l m d) NoTrace e = cc
-answer_one (Trace l m d) (Refused n' f' l' c') e = cc
-answer_one (Channel c) (Trace l' m' d') e = cc
-answer_one (Channel c) (Channel c') e = cc
-answer_one (Channel c) NoTrace e = cc
-answer_one (Channel c) (Refused n' f' l' c') e = cc
-answer_one NoTrace (Trace l' m' d') e = cc
-answer_one NoTrace (Channel c') e = cc
-answer_one NoTrace NoTrace e = refl
-answer_one NoTrace (Refused n' f' l' c') e = cc
-answer_one (Refused n f l c) (Trace l' m' d') e = cc
-answer_one (Refused n f l c) (Channel c') e = cc
-answer_one (Refused n f l c) NoTrace e = cc
-answer_one (Refused n f l c) (Refused n' f' l' c') e = cc
+answer_one (Ok (Some t)) (Ok (Some u)) e = ap (λ (w : Reached). Ok (Some w)) (same_reached t u (cc) (cc) (cc))
+answer_one (Ok (Some t)) (Ok None) e = cc
+answer_one (Ok (Some t)) (Err d) e = cc
+answer_one (Ok None) (Ok (Some u)) e = cc
+answer_one (Ok None) (Ok None) e = refl
+answer_one (Ok None) (Err d) e = cc
+answer_one (Err d) (Ok (Some u)) e = cc
+answer_one (Err d) (Ok None) e = cc
+answer_one (Err d) (Err f) e = let z : told d ≡ told f = cc in ap Err (told_one d f z)
+
+pub back_one : (a b : ChannelAnswer) → paper_channel a ≡ paper_channel b → a ≡ b
+back_one (Ok (Some c)) (Ok (Some c')) e = cc
+back_one (Ok (Some c)) (Ok None) e = cc
+back_one (Ok (Some c)) (Err d) e = cc
+back_one (Ok None) (Ok (Some c)) e = cc
+back_one (Ok None) (Ok None) e = refl
+back_one (Ok None) (Err d) e = cc
+back_one (Err d) (Ok (Some c)) e = cc
+back_one (Err d) (Ok None) e = cc
+back_one (Err d) (Err f) e = let z : told d ≡ told f = cc in ap Err (told_one d f z)
 
 pub asked_record_one : One asked_record.ended asked_record_reads.Post
 asked_record_one κs a v v' w w' = alike
@@ -71,13 +81,13 @@ pub trace_one : One trace.ended trace_reads.Post
 trace_one κs a v v' w w' p p' = (answer_one v v' (p ∙ sym p'), refl)
 
 pub channel_one : One channel.ended channel_reads.Post
-channel_one κs a v v' w w' p p' = (answer_one v v' (p ∙ sym p'), refl)
+channel_one κs a v v' w w' p p' = (back_one v v' (p ∙ sym p'), refl)
 
 pub spread_one : (a b : Spread) → paper_spread a ≡ paper_spread b → a ≡ b
-spread_one (Highest h) (Highest h') e = cc
-spread_one (Highest h) (Denied n' f' l' c') e = cc
-spread_one (Denied n f l c) (Highest h') e = cc
-spread_one (Denied n f l c) (Denied n' f' l' c') e = cc
+spread_one (Ok h) (Ok h') e = cc
+spread_one (Ok h) (Err d) e = cc
+spread_one (Err d) (Ok h) e = cc
+spread_one (Err d) (Err f) e = let z : told d ≡ told f = cc in ap Err (told_one d f z)
 
 pub spread_table_one : One spread_table.ended spread_table_reads.Post
 spread_table_one κs a v v' w w' p p' = (

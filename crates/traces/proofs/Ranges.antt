@@ -14,19 +14,6 @@ use Rattle.rules.specs.Disc.{printable}
 use Rattle.rules.specs.Questions.{record_asked, line_asked, component_asked}
 use Rattle.rules.proofs.Tests.{says}
 
--- one byte
-pub low : (b : ℕ) → b < 32 → printable b ≡ false
-unfolding printable
-low b l = rw (lt-leb 32 b l)
-
-pub high : (b : ℕ) → 32 ≤ b → 126 < b → printable b ≡ false
-unfolding printable
-high b l h = rw (le-leb 32 b l, lt-leb b 126 h)
-
-pub between : (b : ℕ) → 32 ≤ b → b ≤ 126 → printable b ≡ true
-unfolding printable
-between b l h = rw (le-leb 32 b l, le-leb b 126 h)
-
 -- a tape and a record
 module _ (t : List ℕ) (n : ℕ) where
   pub other_length : (length t ≡ 6 → ⊥) → false ≡ record_asked sps93 t n

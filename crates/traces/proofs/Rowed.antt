@@ -17,9 +17,11 @@ use Rattle.rules.specs.Meets.{Meets}
 use Rattle.rules.proofs.Tests.{more}
 use Rattle.rules.proofs.Demand3.{Askable}
 use Rattle.rules.proofs.TraceRows.{rows_told}
-use Rattle.sets.specs.declared.Answer.{Answer as SetAnswer}
-use Rattle.sets.specs.declared.Answer.TheVariants.{Accepted, Refused}
-use Rattle.sets.specs.Paper.{paper as set_paper}
+use Rattle.std.specs.Prelude.{Ok, Err}
+use Rattle.lines.specs.declared.Refusal.{Refusal as LineRefusal}
+use Rattle.lines.specs.Paper.{told}
+use Rattle.sets.specs.declared.Counts.{Counts}
+use Rattle.sets.specs.Paper.{Answer as SetAnswer, paper as set_paper}
 use Rattle.sets.proofs.Verdicts.{last_two, accepted_fine, refused_by}
 use Rattle.rows.specs.Filled.{filled}
 use Rattle.rows.proofs.Stretches.{row_length, rows_length, filled_length}
@@ -59,30 +61,32 @@ module _ (r s x : Sheet) (asks : Meets r s x → Askable x) (i : ℕ) (v : SetAn
   abbrev places : ℕ → ℕ
   places t = min (t - i) (length o / 16)
 
-  filled_by : (a b c t d : ℕ) → v ≡ Accepted a b c t d → e ≡ filled r x i (places t) o
+  filled_by : (c : Counts) → v ≡ Ok c → e ≡ filled r x i (places c.traces) o
   unfolding rows_over
-  filled_by a b c t d y =
-      let n = (last_two r s x a b c t d (sym p ∙ ap set_paper y)).0 in
-      w ∙ rows_fine r s x i o (accepted_fine r s x v p a b c t d y) ∙ ap (λ (t : ℕ). filled r x i (places t) o) (sym n)
+  filled_by c y =
+      let q = sym p ∙ ap set_paper y in
+      let n = (last_two r s x c.receivers c.shots c.relations c.traces c.dead_traces q).0 in
+      w ∙ rows_fine r s x i o (accepted_fine r s x c.receivers c.shots c.relations c.traces c.dead_traces (sym q))
+      ∙ ap (λ (t : ℕ). filled r x i (places t) o) (sym n)
 
-  kept_by : (n f l c : ℕ) → v ≡ Refused n f l c → e ≡ o
-  kept_by n f l c y = w ∙ rows_refused r s x i o (№ n f l c) (refused_by r s x v p n f l c y)
+  kept_by : (d : LineRefusal) → v ≡ Err d → e ≡ o
+  kept_by d y = w ∙ rows_refused r s x i o (told d) (refused_by r s x (told d) (sym (ap set_paper y) ∙ p))
 
   same_size : length e ≡ length o
   same_size = go v refl
     where
       go : (u : SetAnswer) → v ≡ u → length e ≡ length o
-      go (Accepted a b c t d) y = rw (filled_by a b c t d y, filled_length r x i (places t) o (omega arith))
-      go (Refused n f l c) y = rw (kept_by n f l c y)
+      go (Ok c) y = rw (filled_by c y, filled_length r x i (places c.traces) o (omega arith))
+      go (Err d) y = rw (kept_by d y)
 
   pub rowed : TracesTold r s x i v o e
   rowed =
       record {
         size = same_size;
         rows = λ ok. rows_told r s x ok (asks ok);
-        written = λ a b c t d y j h l. rw (filled_by a b c t d y) (row_in r x i (places t) j (omega arith) _);
-        others = λ a b c t d y j h.
-            let n : j < places t → ⊥ = λ q. let z = h (omega arith) in omega arith in
-            rw (filled_by a b c t d y) (rows_after r x i (places t) j o (omega arith));
-        unwritten = kept_by;
+        written = λ c y j h l. rw (filled_by c y) (row_in r x i (places c.traces) j (omega arith) _);
+        others = λ c y j h.
+            let n : j < places c.traces → ⊥ = λ q. let z = h (omega arith) in omega arith in
+            rw (filled_by c y) (rows_after r x i (places c.traces) j o (omega arith));
+        unwritten = λ n f l c. kept_by (record { number = n; file = f; line = l; column = c });
       }

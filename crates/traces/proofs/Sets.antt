@@ -1,10 +1,13 @@
 -- A question after the set's own refusals.
 use Prim.Native.Nat.{ℕ, ◌+◌, ◌≤◌, ◌<◌}
 use native.Mathlib.Omega.{arith}
-use mathlib.Core.Path.{◌≡◌, sym, ap, ap₂, ◌∙◌}
+use mathlib.Core.Path.{◌≡◌, refl, sym, ap, ap₂, ◌∙◌}
 use mathlib.Core.Bool.{Bool, true, false, ◌&&◌}
 use mathlib.Core.List.{List}
-use borrow.Author.Tests.{lt-ltb, le-ltb}
+use lib.Dec.{ltb}
+use borrow.Author.Tests.{lt-ltb}
+use Rattle.std.specs.Prelude.{Some, None}
+use Rattle.shots.specs.Places.{line_in}
 use Rattle.rules.specs.Places.{pick}
 use Rattle.rules.specs.Plan.{Refusal, fine, refused, №, ◌before◌, run}
 use Rattle.rules.specs.Layout.{sps93}
@@ -86,15 +89,22 @@ pub channel_on : (how : Reading) (x : List ℕ) (c : ℕ) (b : Bool) → b ≡ c
 channel_on how x c b e = e ∙ (rw (layout_is how x))
 
 -- found by a relation line, or not
-module _ (r x : Sheet) (t : List ℕ) (n c k : ℕ) (e : k ≡ search (reaches_of x) t n (λ q. carries q c)) (m : ℕ) (y : m ≡ x.count) where
-  pub none_carries : m ≤ k → no_trace ≡ found r x t n c
-  unfolding found pick
-  none_carries l = rw (← e, le-ltb k x.count (omega arith))
+pub none_there : (n q : ℕ) → None ≡ line_in n q → ltb q n ≡ false
+unfolding pick
+none_there n q = go (ltb q n)
+  where
+    go : (b : Bool) → None ≡ pick b (Some q) None → b ≡ false
+    go true e = absurd cc
+    go false e = refl
 
-  module _ (l : k < m) where
-    pub one_carries : traced_on r (reach_at x k) c ≡ found r x t n c
-    unfolding found pick traced_on
-    one_carries = rw (← e, lt-ltb k x.count (omega arith))
+module _ (r x : Sheet) (t : List ℕ) (n c : ℕ) where
+  pub none_carries : None ≡ line_in x.count (search (reaches_of x) t n (λ q. carries q c)) → no_trace ≡ found r x t n c
+  unfolding found pick
+  none_carries e = rw (none_there x.count _ e)
+
+  pub one_carries : (k : ℕ) → k ≡ search (reaches_of x) t n (λ q. carries q c) → k < x.count → traced_on r (reach_at x k) c ≡ found r x t n c
+  unfolding found pick traced_on
+  one_carries k e l = rw (← e, lt-ltb k x.count l)
 
 -- what the line that carries the channel leads to
 module _ (r x : Sheet) (ok : Accepted r x) (k c : ℕ) (h : RelationLine x k) (y : carries (reach_at x k) c ≡ true) (q : Numbers)

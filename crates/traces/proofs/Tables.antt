@@ -1,18 +1,20 @@
 -- The spread table: what is answered after 20, the set's own refusals and 21, and what an answer tells of the slices.
-use Prim.Native.Nat.{ℕ, ◌+◌, ◌≤◌, ◌<◌}
+use Prim.Native.Nat.{ℕ, ◌+◌, ◌≤◌, ◌<◌, min}
 use native.Mathlib.Omega.{arith}
 use mathlib.Core.Path.{◌≡◌, sym, ap, ◌∙◌}
 use mathlib.Core.Bool.{true, false, ◌&&◌}
 use mathlib.Core.List.{List}
 use lib.Dec.{leb}
 use lib.ListN.{set}
-use borrow.Author.Tests.{le-leb, lt-leb}
+use borrow.Author.Tests.{le-leb, leb-true}
 use Rattle.rules.specs.Plan.{Refusal, Verdict, fine, refused, №, run}
 use Rattle.rules.specs.Layout.{sps93}
 use Rattle.rules.specs.Check.{Answer as PaperAnswer, refusal, highest, verdict, answer}
 use Rattle.rules.specs.Questions.{record_asked, rule20}
 use Rattle.rules.specs.Lookup.{found}
 use Rattle.rules.specs.Spread.{component_of, highest_of, turns, place, rule21, spread_verdict, spread, Put, slice}
+use Rattle.rules.proofs.Tests.{and_is}
+use Rattle.lines.proofs.Tests.{untrue}
 use Rattle.rules.proofs.Steps.{need_met, need_broken, before_met, before_broken}
 use Rattle.rules.proofs.Meets.{verdict_meets}
 use Rattle.rules.proofs.Demand3.{asked_is, answered}
@@ -24,9 +26,6 @@ use Rattle.lines.proofs.Sheets.{layout_is}
 use Rattle.spread.specs.Asked.{Asked, Accepted}
 use Rattle.spread.specs.Taken.{filled_components, component_at}
 use Rattle.spread.proofs.Whole.{component_at_lem}
-use Rattle.traces.specs.declared.Spread.{Spread}
-use Rattle.traces.specs.declared.Spread.TheVariants.{Highest, Refused as Denied}
-use Rattle.traces.specs.Paper.{paper_spread}
 use Rattle.traces.proofs.Sets.{in_set}
 
 -- a highest channel is no refusal
@@ -39,11 +38,14 @@ refusal_told fine h w e = no_refusal e
 refusal_told (refused u) h w e = cc
 
 -- a slice that is too short
-pub first_short : (h a b : ℕ) → a < h → (leb h a && leb h b) ≡ false
-first_short h a b l = rw (lt-leb h a l)
-
-pub second_short : (h a b : ℕ) → h ≤ a → b < h → (leb h a && leb h b) ≡ false
-second_short h a b l m = rw (le-leb h a l, lt-leb h b m)
+pub short : (h a b : ℕ) → min a b < h → (leb h a && leb h b) ≡ false
+short h a b l =
+    untrue _
+    (λ t.
+    let w = (and_is (leb h a) (leb h b)).0 t in
+    let y = leb-true h a w.0 in
+    let z = leb-true h b w.1 in
+    omega arith)
 
 module _ (how : Reading) (r s x t : List ℕ) (n a b : ℕ) where
   abbrev Says : PaperAnswer → Type 0
@@ -83,43 +85,39 @@ module _ (how : Reading) (r s x t : List ℕ) (n a b : ℕ) where
           sym (need_met _ _ (rw (← q, le-leb h a l, le-leb h b m)) ∙ last_rule) in
           rw (z, q)
 
-  module _ (v : Spread) (e : Says (paper_spread v)) where
-    -- a refusal leaves a slice
-    pub leaves : (i f l c : ℕ) → v ≡ Denied i f l c → (put : Put) (part : PaperAnswer → ℕ) (d : List ℕ)
-        → d ≡ slice put part (sheet_of how r) (sheet_of how s) (sheet_of how x) t n a b d
+  -- a refusal leaves a slice
+  pub leaves : (w : Refusal) → Says (refusal w) → (put : Put) (part : PaperAnswer → ℕ) (d : List ℕ)
+      → d ≡ slice put part (sheet_of how r) (sheet_of how s) (sheet_of how x) t n a b d
+  unfolding spread
+  leaves w e put part d = sym (refused_stays (sheet_of how r) (sheet_of how s) (sheet_of how x) t n a b put part d w (refusal_told _ _ _ e))
+
+  -- the highest channel stands for a table that is filled
+  module _ (h : ℕ) (e : Says (highest h)) where
+    judged_fine : spread_verdict (sheet_of how r) (sheet_of how s) (sheet_of how x) t n a b ≡ fine
     unfolding spread
-    leaves i f l c z put part d =
-        sym
-        (refused_stays (sheet_of how r) (sheet_of how s) (sheet_of how x) t n a b put part d (№ i f l c)
-        (refusal_told _ _ _ (ap paper_spread (sym z) ∙ e)))
+    judged_fine = ((answered _ _ (highest h) (λ w y. no_refusal (sym y))).0 (sym e)).0
 
-    -- the highest channel stands for a table that is filled
-    module _ (h : ℕ) (z : v ≡ Highest h) where
-      judged_fine : spread_verdict (sheet_of how r) (sheet_of how s) (sheet_of how x) t n a b ≡ fine
-      unfolding spread
-      judged_fine = ((answered _ _ (highest h) (λ w y. no_refusal (sym y))).0 (sym e ∙ ap paper_spread z)).0
+    pub may_fill : (Accepted (sheet_of how r) (sheet_of how x) × Asked t n)
+        × ((highest_of (sheet_of how x) t n ≤ a) × (highest_of (sheet_of how x) t n ≤ b))
+    may_fill =
+        let w = (spread_fine (sheet_of how r) (sheet_of how s) (sheet_of how x) t n a b).0 judged_fine in (
+          (
+            in_set how r s x ((verdict_meets (sheet_of how r) (sheet_of how s) (sheet_of how x)).1 w.1.0),
+            rw (layout_is how x) at ((asked_is (sheet_of how x).layout t n).1 w.0),
+          ),
+          w.1.1,
+        )
 
-      pub may_fill : (Accepted (sheet_of how r) (sheet_of how x) × Asked t n)
-          × ((highest_of (sheet_of how x) t n ≤ a) × (highest_of (sheet_of how x) t n ≤ b))
-      may_fill =
-          let w = (spread_fine (sheet_of how r) (sheet_of how s) (sheet_of how x) t n a b).0 judged_fine in (
-            (
-              in_set how r s x ((verdict_meets (sheet_of how r) (sheet_of how s) (sheet_of how x)).1 w.1.0),
-              rw (layout_is how x) at ((asked_is (sheet_of how x).layout t n).1 w.0),
-            ),
-            w.1.1,
-          )
+    pub lines_filled : (put : Put) (part : PaperAnswer → ℕ) (d l : List ℕ)
+        → l ≡ turns (put (λ c. part (found (sheet_of how r) (sheet_of how x) t n c))) (highest_of (sheet_of how x) t n) d
+        → l ≡ slice put part (sheet_of how r) (sheet_of how s) (sheet_of how x) t n a b d
+    lines_filled put part d l y = y ∙ sym (filled (sheet_of how r) (sheet_of how s) (sheet_of how x) t n a b put part d judged_fine)
 
-      pub lines_filled : (put : Put) (part : PaperAnswer → ℕ) (d l : List ℕ)
-          → l ≡ turns (put (λ c. part (found (sheet_of how r) (sheet_of how x) t n c))) (highest_of (sheet_of how x) t n) d
-          → l ≡ slice put part (sheet_of how r) (sheet_of how s) (sheet_of how x) t n a b d
-      lines_filled put part d l y = y ∙ sym (filled (sheet_of how r) (sheet_of how s) (sheet_of how x) t n a b put part d judged_fine)
-
-      pub components_filled : (d l : List ℕ) → l ≡ filled_components (sheet_of how x) t n d
-          → l ≡ slice place component_of (sheet_of how r) (sheet_of how s) (sheet_of how x) t n a b d
-      components_filled d l y =
-          lines_filled place component_of d l
-          (y
-          ∙ turns_as (place (component_at (sheet_of how x) t n)) (place (λ c. component_of (found (sheet_of how r) (sheet_of how x) t n c)))
-          (highest_of (sheet_of how x) t n) d
-          (λ i _ m. ap (set m i) (sym (component_at_lem (sheet_of how r) (sheet_of how x) t n (i + 1)))))
+    pub components_filled : (d l : List ℕ) → l ≡ filled_components (sheet_of how x) t n d
+        → l ≡ slice place component_of (sheet_of how r) (sheet_of how s) (sheet_of how x) t n a b d
+    components_filled d l y =
+        lines_filled place component_of d l
+        (y
+        ∙ turns_as (place (component_at (sheet_of how x) t n)) (place (λ c. component_of (found (sheet_of how r) (sheet_of how x) t n c)))
+        (highest_of (sheet_of how x) t n) d
+        (λ i _ m. ap (set m i) (sym (component_at_lem (sheet_of how r) (sheet_of how x) t n (i + 1)))))

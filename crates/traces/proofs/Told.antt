@@ -24,18 +24,18 @@ use Rattle.rules.proofs.Demand3.{lookup_marks, there_and_back, lookup_none, back
 use Rattle.rules.proofs.Turns.{numbers_length}
 use Rattle.rules.proofs.Spreads.{spread_fine, spread_refuses, highest_there, highest_one, refused_stays, filled}
 use Rattle.rules.proofs.Spreads.{slice_length, slice_later, slice_agrees, slice_numbers, odd_stays}
-use Rattle.traces.specs.declared.Answer.{Answer}
-use Rattle.traces.specs.declared.Answer.TheVariants.{Trace, Channel, NoTrace, Refused}
-use Rattle.traces.specs.declared.Spread.{Spread}
-use Rattle.traces.specs.declared.Spread.TheVariants.{Highest, Refused as Denied}
-use Rattle.traces.specs.Paper.{paper, paper_spread}
+use Rattle.std.specs.Prelude.{Ok, Err, Some, None}
+use Rattle.traces.specs.Paper.{Answer, ChannelAnswer, Spread, paper, paper_channel, paper_spread, leading, denied}
 use Rattle.traces.specs.Calls.{Table, Spreads, SpreadTable, SpreadBytes}
 use Rattle.traces.specs.Said.{LeadsTo, Traced, Returned, Slice, Tabled}
-use Rattle.traces.proofs.One.{answer_one, spread_one}
+use Rattle.traces.proofs.One.{answer_one, back_one, spread_one}
 
 -- an answer is one exactly where the paper's is
 pub answers : (a b : Answer) (p : PaperAnswer) → paper a ≡ p → (a ≡ b) ↔ (p ≡ paper b)
 answers a b p e = (λ z. sym e ∙ ap paper z, λ z. answer_one a b (e ∙ z))
+
+back_answers : (a b : ChannelAnswer) (p : PaperAnswer) → paper_channel a ≡ p → (a ≡ b) ↔ (p ≡ paper_channel b)
+back_answers a b p e = (λ z. sym e ∙ ap paper_channel z, λ z. back_one a b (e ∙ z))
 
 module _ (r s x : Sheet) (asks : Meets r s x → Askable x) (t : List ℕ) (n : ℕ) where
   pub traced : (c : ℕ) (v : Answer) → paper v ≡ lookup r s x t n c → Traced r s x t n c v
@@ -43,34 +43,34 @@ module _ (r s x : Sheet) (asks : Meets r s x → Askable x) (t : List ℕ) (n : 
       record {
         leads = λ ok k h o f. lead ok k h o f;
         marked = λ l m d y. lookup_marks r s x t n c l m d (sym e ∙ ap paper y);
-        none = Iff.trans (answers v NoTrace _ e) (lookup_none r s x t n c);
-        refused = λ i f l d. Iff.trans (answers v (Refused i f l d) _ e) (lookup_refuses r s x t n c (№ i f l d));
+        none = Iff.trans (answers v (Ok None) _ e) (lookup_none r s x t n c);
+        refused = λ i f l d. Iff.trans (answers v (Err (denied i f l d)) _ e) (lookup_refuses r s x t n c (№ i f l d));
       }
     where
       lead : Meets r s x → (k : ℕ) → k < x.count → Of x t n k → Carries (reach_at x k) c → LeadsTo r (reach_at x k) c v
       lead ok k h o f =
           let w = lookup_leads r s x ok (asks ok) k c h o.0 f in
           let q : lookup r s x t n c ≡ lookup r s x (reach_at x k).tape (reach_at x k).number c = rw (o.1.0, o.1.1) in
-          (w.0, w.1, w.2, w.3, (is_killed (point_at r w.0), killed_is _, answer_one v (Trace (w.0 + 1) _ _) (e ∙ q ∙ w.4)))
+          (w.0, w.1, w.2, w.3, (is_killed (point_at r w.0), killed_is _, answer_one v (leading (w.0 + 1) _ _) (e ∙ q ∙ w.4)))
 
-  pub came_back : (j m : ℕ) (v : Answer) → paper v ≡ way_back r s x t n j m → Returned r s x t n j m v
+  pub came_back : (j m : ℕ) (v : ChannelAnswer) → paper_channel v ≡ way_back r s x t n j m → Returned r s x t n j m v
   came_back j m v e =
       record {
-        none = Iff.trans (answers v NoTrace _ e) (back_none r s x t n j m);
-        refused = λ i f l d. Iff.trans (answers v (Refused i f l d) _ e) (back_refuses r s x t n j m (№ i f l d));
+        none = Iff.trans (back_answers v (Ok None) _ e) (back_none r s x t n j m);
+        refused = λ i f l d. Iff.trans (back_answers v (Err (denied i f l d)) _ e) (back_refuses r s x t n j m (№ i f l d));
       }
 
   pub never_shared : (c d l m : ℕ) (a b : Bool) (v u : Answer) → paper v ≡ lookup r s x t n c → paper u ≡ lookup r s x t n d
-      → v ≡ Trace l m a → u ≡ Trace l m b → c ≡ d
+      → v ≡ leading l m a → u ≡ leading l m b → c ≡ d
   never_shared c d l m a b v u e f y z = lookup_once r s x t n c d l m a b (sym e ∙ ap paper y) (sym f ∙ ap paper z)
 
-  pub forth_and_back : (c l m : ℕ) (v u : Answer) → paper v ≡ lookup r s x t n c → paper u ≡ way_back r s x t n l m
-      → ((d : Bool) × (v ≡ Trace l m d)) ↔ (u ≡ Channel c)
+  pub forth_and_back : (c l m : ℕ) (v : Answer) (u : ChannelAnswer) → paper v ≡ lookup r s x t n c → paper_channel u ≡ way_back r s x t n l m
+      → ((d : Bool) × (v ≡ leading l m d)) ↔ (u ≡ Ok (Some c))
   forth_and_back c l m v u e f =
       let b = there_and_back r s x t n c l m in
-      let a = answers u (Channel c) _ f in (
-        λ w. a.1 (b.0 (w.0, (answers v (Trace l m w.0) _ e).0 w.1)),
-        λ y. let w = b.1 (a.0 y) in (w.0, (answers v (Trace l m w.0) _ e).1 w.1),
+      let a = back_answers u (Ok (Some c)) _ f in (
+        λ w. a.1 (b.0 (w.0, (answers v (leading l m w.0) _ e).0 w.1)),
+        λ y. let w = b.1 (a.0 y) in (w.0, (answers v (leading l m w.0) _ e).1 w.1),
       )
 
 -- the spread table
@@ -136,21 +136,21 @@ module _ (put : Put) (read : List ℕ → List ℕ)
       → Tabled read T.receivers T.shots T.relations T.tape T.number T.lines T.components v l m
   tabled T v l m p =
       record {
-        highest = λ h. Iff.trans (said (Highest h)) (spread_is r s x t n a b h);
+        highest = λ h. Iff.trans (said (Ok h)) (spread_is r s x t n a b h);
         filled = λ h e.
-            let f = (said (Highest h)).0 e in
+            let f = (said (Ok h)).0 e in
             let w = ((spread_is r s x t n a b h).0 f).1.1.1 in
             let q : read l ≡ slice place line_of r s x t n a b (read d) = ap read p.lines ∙ agree r s x t n b line_of d in (
               subst (Slice h (λ c. line_of (lookup r s x t n c)) (read d)) (sym q) (slice_is r s x t n a b h f line_of (read d) w.0),
               subst (Slice h (λ c. component_of (lookup r s x t n c)) o) (sym p.components) (slice_is r s x t n a b h f component_of o w.1),
             );
         absent = λ none h e.
-            let f = fine_at r s x t n a b h ((said (Highest h)).0 e) in
+            let f = fine_at r s x t n a b h ((said (Ok h)).0 e) in
             let z = highest_one x t n 0 ((λ k i y. absurd (none k i y)), inl (none, refl)) in
             (sym f.1 ∙ z, (p.lines ∙ none_put r s x t n a b put line_of d f.0 z, p.components ∙ none_put r s x t n a b place component_of o f.0 z));
-        refused = λ i f k e. Iff.trans (said (Denied i f k e)) (spread_refuses r s x t n a b (№ i f k e));
+        refused = λ i f k e. Iff.trans (said (Err (denied i f k e))) (spread_refuses r s x t n a b (№ i f k e));
         unwritten = λ i f k e y.
-            let g = refused_at r s x t n a b (№ i f k e) ((said (Denied i f k e)).0 y) in
+            let g = refused_at r s x t n a b (№ i f k e) ((said (Err (denied i f k e))).0 y) in
             (p.lines ∙ refused_stays r s x t n a b put line_of d _ g, p.components ∙ refused_stays r s x t n a b place component_of o _ g);
       }
     where

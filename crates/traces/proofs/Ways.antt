@@ -4,7 +4,10 @@ use native.Mathlib.Omega.{arith}
 use mathlib.Core.Path.{◌≡◌, sym, ap, ◌∙◌}
 use mathlib.Core.Bool.{Bool, true, false}
 use mathlib.Core.List.{List}
-use borrow.Author.Tests.{le-leb, lt-leb, lt-ltb, le-ltb}
+use borrow.Author.Tests.{le-leb, lt-leb, lt-ltb}
+use Rattle.std.specs.Prelude.{None}
+use Rattle.shots.specs.Places.{line_in}
+use Rattle.traces.proofs.Sets.{none_there}
 use Rattle.rules.specs.Places.{pick}
 use Rattle.rules.specs.Text.{cols}
 use Rattle.rules.specs.Numbers.{size, whole}
@@ -123,12 +126,11 @@ module _ (r x : Sheet) (t : List ℕ) (n j m : ℕ) where
       pub receiver_line_lem : Known 1 r → ReceiverLine r i
       receiver_line_lem w = (w, (omega arith, ap (is_point r) z ∙ point_is ∙ y))
 
-      module _ (k : ℕ) (e : k ≡ search (reaches_of x) t n (reaches (point_at r i) m)) (c : ℕ) (d : c ≡ x.count) where
-        pub none_reaches : c ≤ k → no_trace ≡ found_back r x t n j m
-        unfolding found_back pick
-        none_reaches g = rw (le-leb 1 j o, le-leb j r.count l, point_is, y, ← z, ← e, le-ltb k x.count (omega arith))
+      pub none_reaches : None ≡ line_in x.count (search (reaches_of x) t n (reaches (point_at r i) m)) → no_trace ≡ found_back r x t n j m
+      unfolding found_back pick
+      none_reaches e = rw (le-leb 1 j o, le-leb j r.count l, point_is, y, ← z, none_there x.count _ e)
 
-        module _ (g : k < c) where
-          pub one_reaches : channel (channel_of (reach_at x k) (point_at r i).number m) ≡ found_back r x t n j m
-          unfolding found_back pick
-          one_reaches = rw (le-leb 1 j o, le-leb j r.count l, point_is, y, ← z, ← e, lt-ltb k x.count (omega arith))
+      pub one_reaches : (k : ℕ) → k ≡ search (reaches_of x) t n (reaches (point_at r i) m) → k < x.count
+          → channel (channel_of (reach_at x k) (point_at r i).number m) ≡ found_back r x t n j m
+      unfolding found_back pick
+      one_reaches k e g = rw (le-leb 1 j o, le-leb j r.count l, point_is, y, ← z, ← e, lt-ltb k x.count g)

@@ -10,19 +10,21 @@ const MOST_RECORD: u64 = 9999;
 
 const MOST_CHANNEL: u64 = 9999;
 
+#[tactic(auto, unfolding(rules::specs::Disc::printable))]
+fn is_printable(b: u8) -> bool
+    ensures value { result ≡ printable b }
+{
+    32 <= b && b <= 126
+}
+
 // Bytes 32 to 126.
 fn all_printable(tape: &[u8]) -> bool
     ensures value { result ≡ every (length tape.now) (λ i. printable (get_or tape.now i 0)) }
 {
-    let mut i = 0;
-    while i < tape.len() {
-        if tape[i] < 32 {
+    for i in 0..tape.len() {
+        if !is_printable(tape[i]) {
             return false;
         }
-        if 126 < tape[i] {
-            return false;
-        }
-        i += 1;
     }
     true
 }
@@ -50,15 +52,23 @@ pub fn channel(number: u64) -> bool
     1 <= number && number <= MOST_CHANNEL
 }
 
-// An R line, 1 to 9,999, and a component, 1 to 9.
-pub fn receiver(r_line: u64, component: u64) -> bool
-    ensures value { result ≡ (line_asked r_line && component_asked component) }
+// An R line, 1 to 9,999.
+fn line(r_line: u64) -> bool
+    ensures value { result ≡ line_asked r_line }
 {
-    if r_line < 1 {
-        return false;
-    }
-    if (lines::MOST_LINES as u64) < r_line {
-        return false;
-    }
-    1 <= component && component <= 9
+    1 <= r_line && r_line <= lines::MOST_LINES as u64
+}
+
+// A component, 1 to 9.
+fn component(number: u64) -> bool
+    ensures value { result ≡ component_asked number }
+{
+    1 <= number && number <= 9
+}
+
+// An R line, and a component.
+pub fn receiver(r_line: u64, number: u64) -> bool
+    ensures value { result ≡ (line_asked r_line && component_asked number) }
+{
+    line(r_line) && component(number)
 }

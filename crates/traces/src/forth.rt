@@ -9,7 +9,7 @@ ghost use Rattle.keys.specs.Held.{RelationLine};
 use keys::{By, Keyed};
 use lines::Reading;
 
-// The line of receiver number n of relation line k, or the number of lines.
+// The line of receiver number n of relation line k, or the number of lines: as the rules say it, so that an accepted set gives it with no test.
 pub fn receiver_line(how: Reading, r: &[u8], x: &[u8], k: usize, n: u32) -> usize
     requires { Known 1 (sheet_of how r.now) × (Known 3 (sheet_of how x.now) × RelationLine (sheet_of how x.now) k) }
     ensures value { result ≡ receiver_line (sheet_of how r.now) (reach_at (sheet_of how x.now) k) n }
@@ -20,12 +20,10 @@ pub fn receiver_line(how: Reading, r: &[u8], x: &[u8], k: usize, n: u32) -> usiz
         by: By::Receivers,
     };
     let count = lines::line_count(how, r);
-    let mut j = 0;
-    while j < count {
+    for j in 0..count {
         if keys::holds(z, r, j, y) {
             return j;
         }
-        j += 1;
     }
     count
 }

@@ -4,6 +4,7 @@ ghost use Rattle.rules.specs.Reaches.{reaches_of, search};
 ghost use Rattle.lines.specs.Reading.{sheet_of};
 ghost use Rattle.form.specs.Known.{Known};
 ghost use Rattle.spread.specs.Asked.{Asked};
+ghost use Rattle.shots.specs.Places.{line_in};
 ghost use Rattle.traces.specs.Steps.{passes, finds, SoughtIn};
 
 use crate::back;
@@ -14,7 +15,7 @@ use spread::wanted::Wanted;
 
 // What is sought among the relation lines of a tape and record: one that carries a channel, or one that reaches a component of the
 // receiver in line i of R, from 0.
-#[derive(Clone, Copy)]
+#[derive(Clone, Copy, Debug, PartialEq, Eq)]
 pub enum Sought {
     Channel(u64),
     Component(usize, u64),
@@ -25,29 +26,31 @@ fn is_here(how: Reading, r: &[u8], x: &[u8], k: usize, w: Wanted, what: Sought) 
     requires { SoughtIn (sheet_of how r.now) what × (Known 3 (sheet_of how x.now) × (k < (sheet_of how x.now).count)) }
     ensures value { result ≡ passes (sheet_of how x.now) w (finds (sheet_of how r.now) what) k }
 {
-    if !wanted::is_of(how, x, k, w) {
-        return false;
-    }
-    match what {
-        Sought::Channel(c) => cover::carries(relation::reach_of(&lines::line_of(how, x, k)), c),
-        Sought::Component(i, m) => back::reaches(how, r, i, x, k, m),
-    }
+    wanted::is_of(how, x, k, w)
+        && match what {
+            Sought::Channel(c) => cover::carries(relation::reach_of(&lines::line_of(how, x, k)), c),
+            Sought::Component(i, m) => back::reaches(how, r, i, x, k, m),
+        }
 }
 
-// The first such line, or the number of lines.
-pub fn first(how: Reading, r: &[u8], x: &[u8], tape: &[u8], record: u64, what: Sought) -> usize
+// The first such line.
+pub fn first(
+    how: Reading,
+    r: &[u8],
+    x: &[u8],
+    tape: &[u8],
+    record: u64,
+    what: Sought,
+) -> Option<usize>
     requires { SoughtIn (sheet_of how r.now) what × (Known 3 (sheet_of how x.now) × Asked tape.now «record») }
     ensures value { result
-        ≡ search (reaches_of (sheet_of how x.now)) tape.now «record» (finds (sheet_of how r.now) what) }
+        ≡ line_in (sheet_of how x.now).count (search (reaches_of (sheet_of how x.now)) tape.now «record» (finds (sheet_of how r.now) what)) }
 {
     let w = wanted::coded(tape, record);
-    let count = lines::line_count(how, x);
-    let mut k = 0;
-    while k < count {
+    for k in 0..lines::line_count(how, x) {
         if is_here(how, r, x, k, w, what) {
-            return k;
+            return Some(k);
         }
-        k += 1;
     }
-    count
+    None
 }

@@ -1,5 +1,6 @@
 -- What `traces::found_back` leaves to show.
 use Rattle.lines.specs.Reading.{sheet_of}
+use Rattle.shots.proofs.Places.{in_found}
 use Rattle.traces.proofs.Lines.{found_line}
 use Rattle.traces.proofs.Ways.{beyond_file, no_point, none_reaches, one_reaches, receiver_line_lem}
 use mathlib.Core.Path.{◌∙◌, refl}
@@ -23,8 +24,8 @@ returns-then-not-takes c = record {
       (omega arith) _ refl _ c.takes.ensures.value c.if-not-takes.true;
 }
 
-pub first-k-requires : goal.first-k-requires
-first-k-requires c = let a = c.args in
+pub first-requires : goal.first-requires
+first-requires c = let a = c.args in
     let p = c.requires in
     let n = c.line_count.ensures.value in
     let l = c.if-line_count-r_line.false in (
@@ -33,15 +34,15 @@ first-k-requires c = let a = c.args in
       (p.0.relations, p.1.0),
     )
 
-pub returns-then-line_count-k : goal.returns-then-line_count-k
-returns-then-line_count-k c = record {
+pub returns-in_err-k : goal.returns-in_err-k
+returns-in_err-k c = record {
   answer = let a = c.args in
       let p = c.requires in
       let n = c.line_count.ensures.value in
       let l = c.if-line_count-r_line.false in
-      none_reaches (sheet_of a.how a.r.now) (sheet_of a.how a.x.now) a.tape.now a.«record» a.r_line a.component p.1.1
-      (omega arith) _ refl _ c.takes.ensures.value c.if-not-takes.false _ c.first-k.ensures.value _
-      c.line_count-2.ensures.value c.if-line_count-k.true;
+      rw c.from_residual.ensures
+      (none_reaches (sheet_of a.how a.r.now) (sheet_of a.how a.x.now) a.tape.now a.«record» a.r_line a.component p.1.1
+      (omega arith) _ refl _ c.takes.ensures.value c.if-not-takes.false c.in_err-k.ensures.value);
 }
 
 pub returned-requires : goal.returned-requires
@@ -51,14 +52,13 @@ returned-requires c = let a = c.args in
     let p = c.requires in
     let n = c.line_count.ensures.value in
     let l = c.if-line_count-r_line.false in
-    let m = c.line_count-2.ensures.value in
-    let k = c.if-line_count-k.false in (
+    let f = in_found _ _ _ c.in_ok-k.ensures.value in (
       (
         p.0,
         receiver_line_lem R X a.tape.now a.«record» a.r_line a.component p.1.1 (omega arith) _ refl _ c.takes.ensures.value
             c.if-not-takes.false p.0.receivers,
       ),
-      found_line X a.tape.now a.«record» _ _ c.first-k.ensures.value (omega arith),
+      found_line X a.tape.now a.«record» _ _ f.0 f.1,
     )
 
 pub returns : goal.returns
@@ -67,8 +67,8 @@ returns c = record {
       let p = c.requires in
       let n = c.line_count.ensures.value in
       let l = c.if-line_count-r_line.false in
+      let f = in_found _ _ _ c.in_ok-k.ensures.value in
       c.returned.ensures.answer
       ∙ one_reaches (sheet_of a.how a.r.now) (sheet_of a.how a.x.now) a.tape.now a.«record» a.r_line a.component p.1.1
-      (omega arith) _ refl _ c.takes.ensures.value c.if-not-takes.false _ c.first-k.ensures.value _
-      c.line_count-2.ensures.value c.if-line_count-k.false;
+      (omega arith) _ refl _ c.takes.ensures.value c.if-not-takes.false _ f.0 f.1;
 }

@@ -1,48 +1,52 @@
 -- What `traces::trace` leaves to show.
+use Rattle.std.proofs.Common.{◌∙◌, sym, ap}
+use Rattle.std.proofs.lemmas.Result.{err_from_is_err_and}
+use Rattle.rules.specs.Check.{refusal}
 use Rattle.rules.specs.Lookup.{lookup}
-use Rattle.traces.proofs.Sets.{channel_on, in_range, in_set, not_asked, out_of_range, own_refusal}
 use Rattle.sets.proofs.Verdicts.{set_accepted, set_refused}
-use mathlib.Core.Path.{◌∙◌, sym}
+use Rattle.traces.proofs.Sets.{channel_on, in_range, in_set, not_asked, out_of_range, own_refusal}
 use Rattle.traces.proofs.trace.Goals as goal
 
 pub returns-then-not-record : goal.returns-then-not-record
 unfolding lookup
 returns-then-not-record c = record {
   answer = let a = c.args in
-      not_asked a.q.how a.r.now a.s.now a.x.now a.tape.now a.q.«record» _ _ _ c.«record».ensures.value c.if-not-record.true;
+      ap refusal c.unplaced.ensures.value
+      ∙ not_asked a.q.how a.r.now a.s.now a.x.now a.tape.now a.q.«record» _ _ _ c.«record».ensures.value c.if-not-record.true;
 }
 
 pub returns-then-not-channel : goal.returns-then-not-channel
 unfolding lookup
 returns-then-not-channel c = record {
   answer = let a = c.args in
-      out_of_range a.q.how a.r.now a.s.now a.x.now a.tape.now a.q.«record» _ _ _ c.«record».ensures.value
-      c.if-not-record.false _
+      ap refusal c.unplaced-then-not-channel.ensures.value
+      ∙ out_of_range a.q.how a.r.now a.s.now a.x.now a.tape.now a.q.«record» _ _ _ c.«record».ensures.value c.if-not-record.false _
       (channel_on a.q.how a.x.now a.channel _ c.channel.ensures.value) c.if-not-channel.true;
 }
 
-pub found-requires : goal.found-requires
-found-requires c = let a = c.args in
-    let ok = set_accepted a.q.how a.r.now a.s.now a.x.now _ c.cross.ensures.answer _ _ _ _ _ c.in-Accepted.is in
-    (in_set a.q.how a.r.now a.s.now a.x.now ok, sym c.«record».ensures.value ∙ c.if-not-record.false)
-
-pub returns-in-Accepted : goal.returns-in-Accepted
+pub returns-in_err-cross : goal.returns-in_err-cross
 unfolding lookup
-returns-in-Accepted c = record {
+returns-in_err-cross c = record {
   answer = let a = c.args in
-      c.found.ensures.answer
-      ∙ in_range a.q.how a.r.now a.s.now a.x.now a.tape.now a.q.«record» _ _ _ c.«record».ensures.value
-      c.if-not-record.false _
-      (channel_on a.q.how a.x.now a.channel _ c.channel.ensures.value) c.if-not-channel.false
-      (set_accepted a.q.how a.r.now a.s.now a.x.now _ c.cross.ensures.answer _ _ _ _ _ c.in-Accepted.is);
+      let p = err_from_is_err_and c.from_residual.result c.from_residual.ensures.1 in
+      rw (p.1, p.2)
+      (own_refusal a.q.how a.r.now a.s.now a.x.now a.tape.now a.q.«record» _ _ _ c.«record».ensures.value c.if-not-record.false _
+      (channel_on a.q.how a.x.now a.channel _ c.channel.ensures.value) c.if-not-channel.false _
+      (set_refused a.q.how a.r.now a.s.now a.x.now _ c.in_err-cross.ensures.answer));
 }
 
-pub returns-in-Refused : goal.returns-in-Refused
+pub found-requires : goal.found-requires
+found-requires c = let a = c.args in (
+  in_set a.q.how a.r.now a.s.now a.x.now (set_accepted a.q.how a.r.now a.s.now a.x.now _ _ _ _ _ c.in_ok-cross.ensures.answer),
+  sym c.«record».ensures.value ∙ c.if-not-record.false,
+)
+
+pub returns : goal.returns
 unfolding lookup
-returns-in-Refused c = record {
+returns c = record {
   answer = let a = c.args in
-      own_refusal a.q.how a.r.now a.s.now a.x.now a.tape.now a.q.«record» _ _ _ c.«record».ensures.value
-      c.if-not-record.false _
-      (channel_on a.q.how a.x.now a.channel _ c.channel.ensures.value) c.if-not-channel.false _
-      (set_refused a.q.how a.r.now a.s.now a.x.now _ c.cross.ensures.answer _ _ _ _ c.in-Refused.is);
+      c.found.ensures.answer
+      ∙ in_range a.q.how a.r.now a.s.now a.x.now a.tape.now a.q.«record» _ _ _ c.«record».ensures.value c.if-not-record.false _
+      (channel_on a.q.how a.x.now a.channel _ c.channel.ensures.value) c.if-not-channel.false
+      (set_accepted a.q.how a.r.now a.s.now a.x.now _ _ _ _ _ c.in_ok-cross.ensures.answer);
 }

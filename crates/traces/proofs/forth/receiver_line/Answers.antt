@@ -15,7 +15,7 @@ pub receiver_key-y-requires : goal.receiver_key-y-requires
 receiver_key-y-requires c = c.requires.1.1.0
 
 pub loop-j-init : goal.loop-j-init
-loop-j-init c = (omega arith, least_none_yet _)
+loop-j-init c = least_none_yet _
 
 pub returns-then-holds : goal.returns-then-holds
 returns-then-holds c = record {
@@ -24,13 +24,13 @@ returns-then-holds c = record {
       let p = c.requires in
       let n = c.line_count-count.ensures.value in
       let y = c.loop-j-test.true in
-      sym (least_stop _ _ R.count (omega arith) c.loop-j.invariant.1 (sym c.holds.ensures.value ∙ c.if-holds.true))
+      sym (least_stop _ _ R.count (omega arith) c.loop-j.invariant (sym c.holds.ensures.value ∙ c.if-holds.true))
       ∙ line_of_key R (sheet_of a.how a.x.now) p.0 p.1.0 (rank_same a.how a.r.now a.x.now) a.k p.1.1 a.n c.ranges.n.fits _
       (key_read a.how a.x.now a.k a.n _ c.receiver_key-y.ensures.value);
 }
 
 pub loop-j-preserved : goal.loop-j-preserved
-loop-j-preserved c = (omega arith, least_more _ _ c.loop-j.invariant.1 (sym c.holds.ensures.value ∙ c.if-holds.false))
+loop-j-preserved c = least_more _ _ c.loop-j.invariant (sym c.holds.ensures.value ∙ c.if-holds.false)
 
 pub returns : goal.returns
 returns c = record {
@@ -42,7 +42,7 @@ returns c = record {
       let y = c.loop-j-test.false in
       let z : c.line_count-count.result ≡ at.j = omega arith in
       let u : at.j ≡ R.count = omega arith in
-      z ∙ sym at.invariant.1 ∙ ap (λ (i : ℕ). least i (holds_key Receivers R c.receiver_key-y.result)) u
+      z ∙ sym at.invariant ∙ ap (λ (i : ℕ). least i (holds_key Receivers R c.receiver_key-y.result)) u
       ∙ line_of_key R (sheet_of a.how a.x.now) p.0 p.1.0 (rank_same a.how a.r.now a.x.now) a.k p.1.1 a.n c.ranges.n.fits _
       (key_read a.how a.x.now a.k a.n _ c.receiver_key-y.ensures.value);
 }

@@ -1,23 +1,22 @@
 -- What `traces::search::first` leaves to show.
-use Prim.Native.Nat.{ℕ}
+use Rattle.std.proofs.Common.{ℕ, ◌≡◌, ◌∙◌, ap, sym, arith}
 use Rattle.lines.specs.Reading.{sheet_of}
 use Rattle.rules.proofs.Steps.{least_more, least_none_yet, least_stop}
 use Rattle.rules.specs.Places.{least}
+use Rattle.shots.proofs.Places.{found_in, none_in}
 use Rattle.traces.proofs.Lines.{walk_of}
 use Rattle.traces.specs.Steps.{finds, passes}
-use mathlib.Core.Path.{◌∙◌, ◌≡◌, ap, sym}
-use native.Mathlib.Omega.{arith}
 use Rattle.traces.proofs.search.first.Goals as goal
 
 pub coded-w-requires : goal.coded-w-requires
 coded-w-requires c = c.requires.1.1
 
 pub loop-k-init : goal.loop-k-init
-loop-k-init c = (omega arith, least_none_yet _)
+loop-k-init c = least_none_yet _
 
 pub is_here-requires : goal.is_here-requires
 is_here-requires c = let p = c.requires in
-    let n = c.line_count-count.ensures.value in
+    let n = c.line_count-k-end.ensures.value in
     (p.0, (p.1.0, omega arith))
 
 pub returns-then-is_here : goal.returns-then-is_here
@@ -25,14 +24,15 @@ returns-then-is_here c = record {
   value = let a = c.args in
       let X = sheet_of a.how a.x.now in
       let p = c.requires in
-      let n = c.line_count-count.ensures.value in
-      let y = c.loop-k-test.true in
-      sym (least_stop _ _ X.count (omega arith) c.loop-k.invariant.1 (sym c.is_here.ensures.value ∙ c.if-is_here.true))
-      ∙ walk_of X p.1.0 a.tape.now a.«record» p.1.1 _ c.coded-w.ensures.value (finds (sheet_of a.how a.r.now) a.what);
+      let at = c.loop-k in
+      let n = c.line_count-k-end.ensures.value in
+      found_in _ _ at.k
+      (sym (least_stop _ _ X.count (omega arith) at.invariant (sym c.is_here.ensures.value ∙ c.if-is_here.true))
+      ∙ walk_of X p.1.0 a.tape.now a.«record» p.1.1 _ c.coded-w.ensures.value (finds (sheet_of a.how a.r.now) a.what)) (omega arith);
 }
 
 pub loop-k-preserved : goal.loop-k-preserved
-loop-k-preserved c = (omega arith, least_more _ _ c.loop-k.invariant.1 (sym c.is_here.ensures.value ∙ c.if-is_here.false))
+loop-k-preserved c = least_more _ _ c.loop-k.invariant (sym c.is_here.ensures.value ∙ c.if-is_here.false)
 
 pub returns : goal.returns
 returns c = record {
@@ -40,11 +40,10 @@ returns c = record {
       let X = sheet_of a.how a.x.now in
       let p = c.requires in
       let at = c.loop-k in
-      let n = c.line_count-count.ensures.value in
-      let y = c.loop-k-test.false in
+      let n = c.line_count-k-end.ensures.value in
       let f = finds (sheet_of a.how a.r.now) a.what in
-      let z : c.line_count-count.result ≡ at.k = omega arith in
-      let u : at.k ≡ X.count = omega arith in
-      z ∙ sym at.invariant.1 ∙ ap (λ (i : ℕ). least i (passes X c.coded-w.result f)) u
-      ∙ walk_of X p.1.0 a.tape.now a.«record» p.1.1 _ c.coded-w.ensures.value f;
+      let z : at.k ≡ X.count = omega arith in
+      none_in _ _
+      (sym z ∙ sym at.invariant ∙ ap (λ (i : ℕ). least i (passes X c.coded-w.result f)) z
+      ∙ walk_of X p.1.0 a.tape.now a.«record» p.1.1 _ c.coded-w.ensures.value f);
 }
