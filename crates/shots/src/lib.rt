@@ -13,7 +13,7 @@ ghost use Rattle.keys.specs.Keyed.{holds_key};
 ghost use Rattle.keys.specs.declared.By.TheVariants.{Points};
 ghost use Rattle.shots.specs.Places.{names_key, shot_found, onward as onward_of, line_in, Missed, Ordered, past_of, all_named};
 
-use keys::{By, Key, Keyed};
+use keys::{Key, Keyed};
 use lines::{Reading, Verdict};
 
 // Line j of S holds the shot with the key y, and it is not killed.
@@ -21,11 +21,7 @@ fn holds_shot(how: Reading, s: &[u8], j: usize, y: Key) -> bool
     requires { j < (sheet_of how s.now).count }
     ensures value { result ≡ (holds_key Points (sheet_of how s.now) y j && not (is_killed (point_at (sheet_of how s.now) j))) }
 {
-    let z = Keyed {
-        how,
-        by: By::Points,
-    };
-    keys::holds(z, s, j, y) && !keys::killed(how, s, j)
+    keys::holds(Keyed::points(how), s, j, y) && !keys::killed(how, s, j)
 }
 
 // Line k of S is a shot that is not killed.
@@ -34,11 +30,7 @@ fn is_live(how: Reading, s: &[u8], k: usize) -> bool
     requires { k < (sheet_of how s.now).count }
     ensures value { result ≡ is_live (sheet_of how s.now) k }
 {
-    let z = Keyed {
-        how,
-        by: By::Points,
-    };
-    keys::takes(z, s, k) && !keys::killed(how, s, k)
+    keys::takes(Keyed::points(how), s, k) && !keys::killed(how, s, k)
 }
 
 // The first line of S from `from` on that holds the shot of relation line k.
@@ -93,10 +85,7 @@ pub fn shots_named(how: Reading, s: &[u8], x: &[u8]) -> Verdict
     requires { Ordered (sheet_of how s.now) (sheet_of how x.now) }
     ensures verdict { paper result ≡ run (all_named (sheet_of how s.now) (sheet_of how x.now)) }
 {
-    let z = Keyed {
-        how,
-        by: By::Points,
-    };
+    let z = Keyed::points(how);
     let mut j = headers::heads(how, x);
     for k in 0..lines::line_count(how, s) {
         if is_live(how, s, k) {

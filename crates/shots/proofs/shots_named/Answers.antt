@@ -24,7 +24,7 @@ returns-then-i-j c = record {
       c.at_line.ensures.verdict
       ∙ stops_here _ at.k _ _ (omega arith) at.invariant.met
       (step_unnamed _ _ c.requires (rank_same a.how a.s.now a.x.now) at.k at.j (omega arith) at.invariant.passed _ c.is_live.ensures.value
-      c.if-is_live.true _ c.key_of.ensures.value _ c.past-i.ensures.value c.if-i-j.true);
+      c.if-is_live.true _ (rw c.points-z.ensures.value at c.key_of.ensures.value) _ c.past-i.ensures.value c.if-i-j.true);
 }
 
 pub loop-k-preserved : goal.loop-k-preserved
@@ -34,7 +34,7 @@ loop-k-preserved c = let a = c.args in
     elim c.if-is_live.branch [
       | then-is_live+else-i-j w ↦
           let v = step_named _ _ c.requires (rank_same a.how a.s.now a.x.now) at.k at.j (omega arith) at.invariant.passed _ c.is_live.ensures.value
-          w.if-is_live.true _ w.key_of.ensures.value _ w.past-i.ensures.value w.if-i-j.false in
+          w.if-is_live.true _ (rw c.points-z.ensures.value at w.key_of.ensures.value) _ w.past-i.ensures.value w.if-i-j.false in
           record { passed = rw w.j-is v.1; met = one_more _ at.k at.invariant.met v.0 }
       | else-is_live w ↦
           let v = step_other _ _ c.requires (rank_same a.how a.s.now a.x.now) at.k at.j (omega arith) at.invariant.passed _ c.is_live.ensures.value
