@@ -11,7 +11,7 @@ ghost use Rattle.keys.specs.declared.By.TheVariants.{Receivers};
 ghost use Rattle.dead.specs.Dead.{killed_row, Counted, Lines, Tally, Summed, dead_at, Accepted};
 
 use fields::figures;
-use keys::{By, Keyed};
+use keys::Keyed;
 use lines::Reading;
 
 // Some line of R is killed.
@@ -63,14 +63,7 @@ fn line_dead(how: Reading, r: &[u8], o: &[u32], x: &[u8], k: usize, t: &[u32]) -
     ensures value { result ≡ dead_at (sheet_of how r.now) (sheet_of how x.now) k }
     ensures small { result < 4294967296 }
 {
-    if !keys::takes(
-        Keyed {
-            how,
-            by: By::Records,
-        },
-        x,
-        k,
-    ) {
+    if !keys::takes(Keyed::records(how), x, k) {
         return 0;
     }
     let e = receivers::first_row(how, r, o, x, k);
@@ -100,15 +93,7 @@ pub fn dead_traces(how: Reading, r: &[u8], x: &[u8], o: &mut [u32], p: &mut [u32
     if !any_killed(how, r) {
         return 0;
     }
-    let m = order::in_order(
-        Keyed {
-            how,
-            by: By::Receivers,
-        },
-        r,
-        o,
-        p,
-    );
+    let m = order::in_order(Keyed::receivers(how), r, o, p);
     let rows = &o[..m];
     count_killed(how, r, rows, p);
     all_dead(how, r, rows, x, p)

@@ -12,7 +12,7 @@ returns-then-not-any_killed c = record { value = none_dead _ _ c.requires.0 (sym
 pub all_dead-requires : goal.all_dead-requires
 all_dead-requires c = let p = c.requires.1.1 in
     let n = c.count_killed.ensures.written in
-    let rows = order_taken _ _ _ _ _ c.in_order-m.ensures.order in
+    let rows = order_taken _ _ _ _ _ (rw c.receivers.ensures.value at c.in_order-m.ensures.order) in
     record {
       set = c.requires.0;
       rows = rows;
