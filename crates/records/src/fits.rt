@@ -18,6 +18,7 @@ use fields::bytes;
 use lines::Verdict;
 
 // H in column 1.
+#[tactic(auto, unfolding(rules::specs::Lines::is_header, rules::specs::Text::col))]
 pub fn is_header(l: &[u8; 80]) -> bool
     ensures value { result ≡ is_header l.now }
 {

@@ -43,6 +43,7 @@ fn held_at(l: &[u8; 80], a: usize, b: usize, n: Option<Number>) -> Option<i64>
 }
 
 // The values of a point line; of a marker those of its free columns say nothing.
+#[tactic(auto, using(crate::proofs::Sizes::sizes))]
 pub fn point_of(l: &[u8; 80]) -> Point
     ensures value { result ≡ coded_point (point_values sps93 l.now) }
 {

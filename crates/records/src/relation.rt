@@ -43,6 +43,7 @@ pub fn number_at(l: &[u8; 80], a: usize, b: usize) -> u32
 }
 
 // The index in column a.
+#[tactic(auto, using(fields::proofs::Codes::first_column))]
 pub fn index_at(l: &[u8; 80], a: usize) -> u32
     requires { (1 ≤ a) × (a ≤ 80) }
     ensures value { result ≡ index_of (col (cols l.now a a) 1) }

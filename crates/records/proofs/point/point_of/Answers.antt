@@ -3,10 +3,8 @@ use Prim.Native.Nat.{ℕ}
 use mathlib.Core.List.{List}
 use mir.Syntax.{w64}
 use mir.ValLaws.{to_z-of_z}
-use Rattle.records.proofs.Sizes.{fits_62, water_62}
 use Rattle.records.proofs.Values.{held_is}
 use Rattle.records.specs.Coded.{held_of, coded_state}
-use Rattle.rules.proofs.Sizes.{tenths_small, signed_small, whole_small}
 use Rattle.rules.specs.Kinds.{water}
 use Rattle.rules.specs.Layout.{at, sps93}
 use Rattle.rules.specs.Numbers.{Number, signed, value, whole}
@@ -17,33 +15,8 @@ use Rattle.lines.specs.declared.Reading.{Reading}
 use Rattle.lines.specs.Reading.{medium_of}
 use Rattle.lines.proofs.Sheets.{ranked_own}
 use Rattle.rules.specs.Text.{blank, cols}
-use lib.Dec.{lit≤}
 use mathlib.Core.Path.{◌∙◌, ap}
 use Rattle.records.proofs.point.point_of.Goals as goal
-
-pub held_at-requires : goal.held_at-requires
-held_at-requires c = ((lit≤ tt, lit≤ tt), rw c.signed.ensures.value (fits_62 _ _ 29 32 (lit≤ tt) (lit≤ tt) (signed_small _)))
-
-pub held_at-requires-2 : goal.held_at-requires-2
-held_at-requires-2 c = ((lit≤ tt, lit≤ tt), rw c.whole.ensures.value (fits_62 _ _ 41 42 (lit≤ tt) (lit≤ tt) (whole_small _)))
-
-pub held_at-requires-3 : goal.held_at-requires-3
-held_at-requires-3 c = ((lit≤ tt, lit≤ tt), rw c.water.ensures.value (water_62 _))
-
-pub value-requires : goal.value-requires
-value-requires c = rw c.decimal.ensures.value (fits_62 _ _ 33 36 (lit≤ tt) (lit≤ tt) (tenths_small whole whole_small _))
-
-pub value-requires-2 : goal.value-requires-2
-value-requires-2 c = rw c.signed-2.ensures.value (fits_62 _ _ 37 40 (lit≤ tt) (lit≤ tt) (signed_small _))
-
-pub value-requires-3 : goal.value-requires-3
-value-requires-3 c = rw c.signed_decimal.ensures.value (fits_62 _ _ 47 55 (lit≤ tt) (lit≤ tt) (tenths_small signed signed_small _))
-
-pub value-requires-4 : goal.value-requires-4
-value-requires-4 c = rw c.signed_decimal-2.ensures.value (fits_62 _ _ 56 65 (lit≤ tt) (lit≤ tt) (tenths_small signed signed_small _))
-
-pub value-requires-5 : goal.value-requires-5
-value-requires-5 c = rw c.signed_decimal-3.ensures.value (fits_62 _ _ 66 71 (lit≤ tt) (lit≤ tt) (tenths_small signed signed_small _))
 
 pub returns : goal.returns
 unfolding point sps93 number_of index_at name_of at holds disc
