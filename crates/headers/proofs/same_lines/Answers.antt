@@ -11,17 +11,6 @@ pub loop-k-init : goal.loop-k-init
 unfolding same_lines
 loop-k-init c = none_yet _
 
-pub same_columns-requires : goal.same_columns-requires
-same_columns-requires c = let at = c.loop-k in
-    let a = c.args in
-    let p = c.requires in (
-      omega arith,
-      (
-        ap length c.line_of-l.ensures.value ∙ row_length a.how a.r.now at.k (omega arith),
-        ap length c.line_of-m.ensures.value ∙ row_length a.how a.f.now at.k (omega arith),
-      ),
-    )
-
 pub returns-in_err-same_columns : goal.returns-in_err-same_columns
 unfolding same_lines
 returns-in_err-same_columns c = record {

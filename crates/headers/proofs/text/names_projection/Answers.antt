@@ -4,9 +4,6 @@ use borrow.Author.Rules.{rules}
 use mathlib.Core.Path.{◌∙◌}
 use Rattle.headers.proofs.text.names_projection.Goals as goal
 
-pub returns-then-l-c-ne32 : goal.returns-then-l-c-ne32
-returns-then-l-c-ne32 c = record { value = c.names_at.ensures.value ∙ c.loop-c.invariant }
-
 pub loop-c-preserved : goal.loop-c-preserved
 loop-c-preserved c = search (rules, names_step)
 
