@@ -151,3 +151,10 @@ module _ (l : List ℕ) (c : ℕ) (o : 1 ≤ c) (h : c ≤ 80) (n : get_or l (c 
           at_n_a r t w =
               sym (after_slash
               ∙ (rw (onward, r) (ap not (tail_this 65 (cols l (c + 3) 80) [] (λ z. omega arith) (λ z. omega arith) ∙ tail_nothing _ ∙ sym w))))
+
+-- what the check goes by in each function
+pub ruleset ends_told = (ends_cut, ends_stop, ends_step, ends_end)
+
+pub ruleset blanks_before = (names_step, names_end)
+
+pub ruleset names_told = (at_cut, at_other, at_short, at_no_slash, at_no_a, at_n_a)

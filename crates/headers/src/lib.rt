@@ -17,6 +17,7 @@ use records::fits;
 mod text;
 
 // How many header lines stand first.
+#[tactic(auto, using(crate::proofs::Laws::header_walk), unfolding(rules::specs::Lines::heads))]
 pub fn heads(how: Reading, f: &[u8]) -> usize
     ensures value { result ≡ heads_of (sheet_of how f.now) }
 {
@@ -31,6 +32,7 @@ pub fn heads(how: Reading, f: &[u8]) -> usize
 }
 
 // A header line of type t: its two digits, and a blank column after them.
+#[tactic(auto, using(crate::proofs::Laws::two_and_blank))]
 fn is_type(l: &[u8; 80], t: u8) -> bool
     requires { t < 100 }
     ensures value { result ≡ is_type sps93 t l.now }
@@ -39,6 +41,7 @@ fn is_type(l: &[u8; 80], t: u8) -> bool
 }
 
 // One of the first n lines is of type t.
+#[tactic(auto, using(crate::proofs::Laws::type_walk), unfolding(crate::specs::Steps::has_type))]
 fn has_type(how: Reading, f: &[u8], n: usize, t: u8) -> bool
     requires { (n ≤ (sheet_of how f.now).count) × (t < 100) }
     ensures value { result ≡ has_type (sheet_of how f.now) n t }
@@ -53,6 +56,7 @@ fn has_type(how: Reading, f: &[u8], n: usize, t: u8) -> bool
 }
 
 // 7: R's header has each of the types 00 to 20.
+#[tactic(auto, using(crate::proofs::Laws::seven), unfolding(rules::specs::Sheet::most_lines))]
 pub fn rule7(how: Reading, r: &[u8]) -> Verdict
     requires { (sheet_of how r.now).count ≤ most_lines }
     ensures verdict { paper result ≡ run (rule7_of (sheet_of how r.now)) }
@@ -67,6 +71,7 @@ pub fn rule7(how: Reading, r: &[u8]) -> Verdict
 }
 
 // 8 of line k.
+#[tactic(auto, using(crate::proofs::Laws::eight), unfolding(rules::specs::Sheet::most_lines))]
 fn line_names(l: &[u8; 80], k: usize) -> Verdict
     requires { k < most_lines }
     ensures verdict { paper result ≡ run (named sps93 k l.now) }
@@ -78,6 +83,7 @@ fn line_names(l: &[u8; 80], k: usize) -> Verdict
 }
 
 // 8: each H18 names a projection.
+#[tactic(auto, using(crate::proofs::Laws::eight_walk))]
 pub fn rule8(how: Reading, r: &[u8]) -> Verdict
     requires { (sheet_of how r.now).count ≤ most_lines }
     ensures verdict { paper result ≡ run (up_to (heads_of (sheet_of how r.now)) (rule8_of (sheet_of how r.now))) }
@@ -91,6 +97,7 @@ pub fn rule8(how: Reading, r: &[u8]) -> Verdict
 }
 
 // 9 of line k of file i, column by column.
+#[tactic(auto, using(crate::proofs::Laws::columns), unfolding(rules::specs::Sheet::most_lines))]
 fn same_columns(i: u8, k: usize, l: &[u8; 80], m: &[u8; 80]) -> Verdict
     requires { (k < most_lines) × ((length l.now ≡ 80) × (length m.now ≡ 80)) }
     ensures verdict { paper result ≡ run (same_columns i k 1 l.now m.now) }
@@ -104,6 +111,7 @@ fn same_columns(i: u8, k: usize, l: &[u8; 80], m: &[u8; 80]) -> Verdict
 }
 
 // 9 of the first n lines of file i, which R has too.
+#[tactic(auto, using(crate::proofs::Laws::nine_walk), unfolding(crate::specs::Steps::same_lines))]
 fn same_lines(how: Reading, i: u8, r: &[u8], f: &[u8], n: usize) -> Verdict
     requires { (n ≤ most_lines) × ((n ≤ (sheet_of how r.now).count) × (n ≤ (sheet_of how f.now).count)) }
     ensures verdict { paper result ≡ run (same_lines i (sheet_of how r.now) (sheet_of how f.now) n) }
@@ -117,6 +125,7 @@ fn same_lines(how: Reading, i: u8, r: &[u8], f: &[u8], n: usize) -> Verdict
 }
 
 // 9: the header of file i is R's, line by line, then by the number of lines.
+#[tactic(auto, using(crate::proofs::Laws::nine), unfolding(rules::specs::Sheet::most_lines))]
 pub fn rule9(how: Reading, i: u8, r: &[u8], f: &[u8]) -> Verdict
     requires { ((sheet_of how r.now).count ≤ most_lines) × ((sheet_of how f.now).count ≤ most_lines) }
     ensures verdict { paper result ≡ run (rule9_of i (sheet_of how r.now) (sheet_of how f.now)) }

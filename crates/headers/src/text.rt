@@ -5,6 +5,7 @@ ghost use Rattle.rules.specs.Headers.{cut};
 ghost use Rattle.headers.specs.Steps.{names};
 
 // Only blanks stand from column a on, up to a semicolon or the end.
+#[tactic(auto, using(crate::proofs::Projection::ends_told))]
 fn ends(l: &[u8; 80], a: usize) -> bool
     requires { 1 ≤ a }
     ensures value { result ≡ is_blank (cut (cols l.now a 80)) }
@@ -21,6 +22,7 @@ fn ends(l: &[u8; 80], a: usize) -> bool
 }
 
 // Whether the text from column c on, where no blank stands, names a projection: something, and not N/A.
+#[tactic(auto, using(crate::proofs::Projection::names_told))]
 fn names_at(l: &[u8; 80], c: usize) -> bool
     requires { (1 ≤ c) × ((c ≤ 80) × (get_or l.now (c - 1) 0 ≡ 32 → ⊥)) }
     ensures value { result ≡ names (cols l.now c 80) }
@@ -35,6 +37,7 @@ fn names_at(l: &[u8; 80], c: usize) -> bool
 }
 
 // Whether the text in columns 33-80 names a projection.
+#[tactic(auto, using(crate::proofs::Projection::blanks_before))]
 pub fn names_projection(l: &[u8; 80]) -> bool
     ensures value { result ≡ names (cols l.now 33 80) }
 {

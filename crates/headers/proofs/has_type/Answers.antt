@@ -1,16 +1,12 @@
 -- What `headers::has_type` leaves to show.
 use Rattle.headers.specs.Steps.{has_type}
-use Rattle.rules.proofs.Steps.{some_more, some_none, some_stop}
+use Rattle.rules.proofs.Steps.{some_stop}
 use Rattle.lines.specs.Reading.{sheet_of}
 use Rattle.lines.proofs.Sheets.{layout_is}
 use Rattle.headers.proofs.Laws.{type_here}
 use mathlib.Core.Path.{◌∙◌, sym}
 use native.Mathlib.Omega.{arith}
 use Rattle.headers.proofs.has_type.Goals as goal
-
-pub loop-k-init : goal.loop-k-init
-unfolding has_type
-loop-k-init c = some_none _
 
 pub returns-then-is_type : goal.returns-then-is_type
 unfolding has_type
@@ -21,11 +17,3 @@ returns-then-is_type c = record {
       c.line_of-l.ensures.value _ _ c.is_type.ensures.value in
       sym (some_stop _ _ _ (omega arith) (sym q ∙ c.if-is_type.true));
 }
-
-pub loop-k-preserved : goal.loop-k-preserved
-unfolding has_type
-loop-k-preserved c = let at = c.loop-k in
-    let a = c.args in
-    let q = type_here (sheet_of a.how a.f.now) _ (layout_is a.how a.f.now) _ at.k
-    c.line_of-l.ensures.value _ _ c.is_type.ensures.value in
-    some_more _ _ at.invariant (sym q ∙ c.if-is_type.false)

@@ -1,19 +1,10 @@
 -- What `headers::rule8` leaves to show.
 use Rattle.std.proofs.Common.{◌∙◌, arith}
 use Rattle.std.proofs.lemmas.Result.{err_from_is_err_and}
-use Rattle.rules.proofs.Steps.{none_yet, one_more, stops_here}
+use Rattle.rules.proofs.Steps.{stops_here}
 use Rattle.lines.proofs.Sheets.{layout_is}
-use Rattle.headers.proofs.Laws.{eight_of, heads_below}
+use Rattle.headers.proofs.Laws.{eight_of}
 use Rattle.headers.proofs.rule8.Goals as goal
-
-pub loop-k-init : goal.loop-k-init
-loop-k-init c = none_yet _
-
-pub line_of-l-requires : goal.line_of-l-requires
-line_of-l-requires c = omega (arith, heads_below _ _ c.heads-n.ensures.value)
-
-pub line_names-requires : goal.line_names-requires
-line_names-requires c = omega (arith, heads_below _ _ c.heads-n.ensures.value)
 
 pub returns-in_err-line_names : goal.returns-in_err-line_names
 returns-in_err-line_names c = record {
@@ -24,8 +15,3 @@ returns-in_err-line_names c = record {
       (stops_here _ _ _ _ (omega arith) c.loop-k.invariant
       (c.in_err-line_names.ensures.verdict ∙ eight_of _ _ (layout_is a.how a.r.now) _ _ c.line_of-l.ensures.value));
 }
-
-pub loop-k-preserved : goal.loop-k-preserved
-loop-k-preserved c = let a = c.args in
-    one_more _ _ c.loop-k.invariant
-    (c.in_ok-line_names.ensures.verdict ∙ eight_of _ _ (layout_is a.how a.r.now) _ _ c.line_of-l.ensures.value)

@@ -1,15 +1,10 @@
 -- What `headers::same_lines` leaves to show.
-use Rattle.std.proofs.Common.{◌∙◌, ap, length, arith}
+use Rattle.std.proofs.Common.{◌∙◌, arith}
 use Rattle.std.proofs.lemmas.Result.{err_from_is_err_and}
-use Rattle.rules.proofs.Steps.{none_yet, one_more, stops_here}
-use Rattle.lines.proofs.Sheets.{row_length}
+use Rattle.rules.proofs.Steps.{stops_here}
 use Rattle.headers.specs.Steps.{same_lines}
 use Rattle.headers.proofs.Laws.{nine_row}
 use Rattle.headers.proofs.same_lines.Goals as goal
-
-pub loop-k-init : goal.loop-k-init
-unfolding same_lines
-loop-k-init c = none_yet _
 
 pub returns-in_err-same_columns : goal.returns-in_err-same_columns
 unfolding same_lines
@@ -19,9 +14,3 @@ returns-in_err-same_columns c = record {
       (stops_here _ _ _ _ (omega arith) c.loop-k.invariant
       (c.in_err-same_columns.ensures.verdict ∙ nine_row _ _ _ _ _ _ c.line_of-l.ensures.value c.line_of-m.ensures.value));
 }
-
-pub loop-k-preserved : goal.loop-k-preserved
-unfolding same_lines
-loop-k-preserved c =
-    one_more _ _ c.loop-k.invariant
-    (c.in_ok-same_columns.ensures.verdict ∙ nine_row _ _ _ _ _ _ c.line_of-l.ensures.value c.line_of-m.ensures.value)
