@@ -23,10 +23,13 @@ use Rattle.rules.specs.Points.{point_at, point}
 use Rattle.rules.specs.Relations.{relation_at}
 use Rattle.rules.specs.Codes.{tables_of, names, named, named_before, rule24, used_code, line_naming}
 use Rattle.rules.proofs.Tests.{clash, agree, yes_no, and_is, not_is, every_is, some_is}
+use Rattle.lines.proofs.Sheets.{layout_is}
+use Rattle.headers.proofs.Laws.{heads_below}
+use Rattle.rules.proofs.Steps.{none_yet, one_more, stops_here, least_none_yet, least_more}
 use Rattle.rules.proofs.Steps.{need_met, need_broken, when_off, when_on, every_stop, least_stop}
 use Rattle.fields.proofs.Codes.{two_columns}
 use Rattle.codes.specs.Named.{Kind, place_of, place_for, place_on, place_used, is_noted, allowed, Noted}
-use Rattle.codes.proofs.Placed.{place_few, code_bytes, placed, names_placed}
+use Rattle.codes.proofs.Placed.{equal_places, place_few, code_bytes, placed, names_placed}
 
 off : (t : Bool) → (t ≡ true → ⊥) → t ≡ false
 off true n = absurd (n refl)
@@ -227,3 +230,8 @@ module _ (r : Sheet) (y : r.layout ≡ sps93) where
         go false t e = sym (need_met _ v none_used) ∙ when_off false (need (named r i c) v) refl
         go true false e = sym (need_met _ v none_used) ∙ when_off false (need (named r i c) v) refl
         go true true e = ap (λ (b : Bool). run (need b v)) (named_noted e) ∙ when_on true (need (named r i c) v) refl
+
+-- what the check goes by in each function
+pub ruleset noted_walk = (heads_below, layout_is, none_yet, one_more, stops_here, noted_none, noted_more, noted_same, once_met, once_none, once_broken)
+
+pub ruleset naming_walk = (heads_below, layout_is, equal_places, least_none_yet, least_more, naming_at, naming_end)

@@ -16,6 +16,7 @@ use Rattle.rules.specs.Headers.{two_digits}
 use Rattle.rules.specs.Codes.{tables_of, is_instrument, three_digits, opens}
 use Rattle.rules.proofs.Tests.{says, and_is}
 use Rattle.rules.proofs.Columns.{cols_end, cols_step}
+use Rattle.rules.proofs.Steps.{some_none, some_more, some_stop}
 use Rattle.rules.proofs.Fields.{family_is}
 use Rattle.rules.proofs.Codes.{is_code_lem}
 use Rattle.codes.specs.Named.{place_for, numbered, kind_on, place_on}
@@ -155,3 +156,18 @@ module _ (l : List ℕ) where
 -- the numbers of first records are of three digits
 pub step_fits : (a d n m : ℕ) → n < m → a + d * m < 1000 → (d * n < 1000) × (a + d * n < 1000)
 step_fits a d n m h g = let l = mul-le-mul_left d (let z : n ≤ m = omega arith in z) in (omega arith, omega arith)
+
+-- what the check goes by in each function
+pub ruleset instruments = (digit_range, no_comma, no_digit, instrument_here)
+
+pub ruleset points = (no_point_digit, no_code, point_here, point_range)
+
+pub ruleset kinds_of_place = (for_instrument, for_point)
+
+pub ruleset numbers = (number_here, other_number)
+
+pub ruleset number_walk = (some_none, some_more, some_stop, step_fits)
+
+pub ruleset kinds = (kind_1, kind_2, kind_3, kind_0)
+
+pub ruleset named_places = (no_place, place_here)

@@ -20,7 +20,7 @@ use Rattle.rules.specs.Points.{point_at, point}
 use Rattle.rules.specs.Text.{cols}
 use Rattle.rules.specs.Codes.{used_code, code_span, rule25}
 use Rattle.rules.proofs.Medium.{ranked_column}
-use Rattle.rules.proofs.Steps.{need_broken}
+use Rattle.rules.proofs.Steps.{need_met, need_broken, none_yet, one_more, stops_here}
 use Rattle.lines.specs.declared.Reading.{Reading}
 use Rattle.lines.specs.Reading.{medium_of, sheet_of}
 use Rattle.lines.proofs.Sheets.{lawful, layout_is, row_own}
@@ -99,3 +99,8 @@ all_used how f g a w i m =
     let s = sheet_of how g in
     ap (first_of s.count)
     (fun_ext (λ k. used_is (sheet_of how f) (layout_is how f) a w i m s (layout_is how g) k (№ 25 i (k + 1) (code_span s.layout i).first)))
+
+-- what the check goes by in each function
+pub ruleset used = (used_none, used_instrument, used_point)
+
+pub ruleset used_walk = (layout_is, need_met, note_broken, allowed_here, allowed_none, refused_here, none_yet, one_more, stops_here)

@@ -18,6 +18,7 @@ use lines::{Reading, Verdict};
 mod tables;
 
 // 24: no first record names a code that an earlier one of its kind names. What is named is noted.
+#[tactic(auto, using(crate::proofs::Naming::noted_walk), unfolding(rules::specs::Sheet::most_lines))]
 fn rule24(how: Reading, r: &[u8], named: &mut [bool; tables::PLACES]) -> Verdict
     requires { ((sheet_of how r.now).count ≤ most_lines) × (named.old ≡ replicate 243 false) }
     ensures verdict { paper result ≡ run (up_to (heads_of (sheet_of how r.now)) (rule24_of (sheet_of how r.now))) }
@@ -36,6 +37,7 @@ fn rule24(how: Reading, r: &[u8], named: &mut [bool; tables::PLACES]) -> Verdict
 }
 
 // The place of the code that line k of file i uses: the code of a point, or the instrument of a relation line.
+#[tactic(auto, using(crate::proofs::Used::used))]
 fn used_by(how: Reading, i: u8, f: &[u8], k: usize) -> Option<usize>
     requires { Known i (sheet_of how f.now) × (k < (sheet_of how f.now).count) }
     ensures value { place_or result ≡ place_used i (sheet_of how f.now) k }
@@ -52,6 +54,7 @@ fn used_by(how: Reading, i: u8, f: &[u8], k: usize) -> Option<usize>
 }
 
 // The column of a code in file i.
+#[tactic(auto, unfolding(rules::specs::Places::pick, rules::specs::Layout::sps93))]
 fn code_column(i: u8) -> u8
     ensures value { result ≡ (code_span sps93 i).first }
 {
@@ -62,6 +65,7 @@ fn code_column(i: u8) -> u8
 }
 
 // 25 over file i: each code that it uses is noted.
+#[tactic(auto, using(crate::proofs::Used::used_walk), unfolding(rules::specs::Sheet::most_lines))]
 fn rule25(how: Reading, i: u8, f: &[u8], named: &[bool; tables::PLACES]) -> Verdict
     requires { Known i (sheet_of how f.now) }
     ensures verdict { paper result ≡ run (all_noted named.now i (sheet_of how f.now)) }
@@ -89,6 +93,7 @@ pub fn codes_fit(how: Reading, r: &[u8], s: &[u8], x: &[u8]) -> Verdict
 }
 
 // The bytes b and d are a code of kind i, as a table has it.
+#[tactic(auto, using(crate::proofs::Placed::code_told))]
 pub fn is_code(i: u8, b: u8, d: u8) -> bool
     ensures value { result ≡ (tables_of i).is_code (b ∷ d ∷ []) }
 {
@@ -96,6 +101,7 @@ pub fn is_code(i: u8, b: u8, d: u8) -> bool
 }
 
 // The header line of R that names a code of kind i, from 1.
+#[tactic(auto, using(crate::proofs::Naming::naming_walk), unfolding(rules::specs::Sheet::most_lines))]
 pub fn line_naming(how: Reading, r: &[u8], i: u8, b: u8, d: u8) -> Option<u32>
     requires { ((sheet_of how r.now).count ≤ most_lines) × (Kind i × ((tables_of i).is_code (b ∷ d ∷ []) ≡ true)) }
     ensures value { line_or result ≡ line_naming (sheet_of how r.now) i (b ∷ d ∷ []) }

@@ -13,6 +13,7 @@ use fields::{bytes, families};
 pub const PLACES: usize = 243;
 
 // The place of an instrument.
+#[tactic(auto, using(crate::proofs::Steps::instruments))]
 fn instrument_place(b: u8, d: u8) -> Option<usize>
     ensures value { place_or result ≡ pick (is_instrument (b ∷ d ∷ [])) (b - 49) 243 }
     ensures few { IfSome result (λ p. p < 243) }
@@ -24,6 +25,7 @@ fn instrument_place(b: u8, d: u8) -> Option<usize>
 }
 
 // The place of the code of a point in file i.
+#[tactic(auto, using(crate::proofs::Steps::points))]
 fn point_place(i: u8, b: u8, d: u8) -> Option<usize>
     ensures value { place_or result ≡ pick (of_family i (b ∷ d ∷ [])) (9 + 9 * (b - 65) + (d - 49)) 243 }
     ensures few { IfSome result (λ p. p < 243) }
@@ -35,6 +37,7 @@ fn point_place(i: u8, b: u8, d: u8) -> Option<usize>
 }
 
 // The place of the code of kind i.
+#[tactic(auto, using(crate::proofs::Steps::kinds_of_place))]
 pub fn place(i: u8, b: u8, d: u8) -> Option<usize>
     ensures value { place_or result ≡ place_for i (b ∷ d ∷ []) }
     ensures few { IfSome result (λ p. p < 243) }
@@ -46,6 +49,7 @@ pub fn place(i: u8, b: u8, d: u8) -> Option<usize>
 }
 
 // A header line of number t: its three digits.
+#[tactic(auto, using(crate::proofs::Steps::numbers))]
 fn is_numbered(l: &[u8; 80], t: u16) -> bool
     requires { t < 1000 }
     ensures value { result ≡ same (cols l.now 2 4) (three_digits t) }
@@ -60,6 +64,7 @@ fn is_numbered(l: &[u8; 80], t: u16) -> bool
 }
 
 // One of `many` numbers, which begin at `first` and stand `step` apart.
+#[tactic(auto, using(crate::proofs::Steps::number_walk))]
 fn opens(l: &[u8; 80], first: u16, step: u16, many: u16) -> bool
     requires { first + step * many < 1000 }
     ensures value { result ≡ numbered l.now first step many }
@@ -73,6 +78,7 @@ fn opens(l: &[u8; 80], first: u16, step: u16, many: u16) -> bool
 }
 
 // The kind of the table of which a header line is the first record: receivers 1, sources 2, instruments 3.
+#[tactic(auto, using(crate::proofs::Steps::kinds))]
 fn kind_of(l: &[u8; 80]) -> Option<u8>
     ensures value { kind_or result ≡ kind_on sps93 l.now }
     ensures kind { IfSome result Kind }
@@ -90,6 +96,7 @@ fn kind_of(l: &[u8; 80]) -> Option<u8>
 }
 
 // The place of the code that a header line names.
+#[tactic(auto, using(crate::proofs::Steps::named_places))]
 pub fn named_by(l: &[u8; 80]) -> Option<usize>
     ensures value { place_or result ≡ place_on sps93 l.now }
     ensures few { IfSome result (λ p. p < 243) }

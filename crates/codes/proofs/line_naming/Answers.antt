@@ -1,29 +1,12 @@
 -- What `codes::line_naming` leaves to show.
-use Rattle.std.proofs.Common.{ℕ, eqb, ap, sym, ◌∙◌, arith}
+use Rattle.std.proofs.Common.{ap, sym, ◌∙◌, arith}
 use borrow.Author.Tests.{eqb-true}
-use Rattle.rules.specs.Sheet.{most_lines}
 use Rattle.rules.specs.Layout.{sps93}
-use Rattle.rules.proofs.Steps.{least_none_yet, least_more}
 use Rattle.lines.proofs.Sheets.{layout_is}
-use Rattle.headers.proofs.Laws.{heads_below}
-use Rattle.codes.specs.Named.{place_or, place_on}
+use Rattle.codes.specs.Named.{place_on}
 use Rattle.codes.proofs.Placed.{equal_places}
 use Rattle.codes.proofs.Naming.{naming_at, naming_end}
 use Rattle.codes.proofs.line_naming.Goals as goal
-
-pub loop-k-init : goal.loop-k-init
-loop-k-init c = least_none_yet _
-
-pub line_of-l-requires : goal.line_of-l-requires
-line_of-l-requires c = omega (arith, heads_below _ _ c.heads-k-end.ensures.value)
-
-pub overflow_cast-result : goal.overflow_cast-result
-unfolding most_lines
-overflow_cast-result c = omega (arith, heads_below _ _ c.heads-k-end.ensures.value, c.requires.0)
-
-pub overflow_add-result : goal.overflow_add-result
-unfolding most_lines
-overflow_add-result c = omega (arith, heads_below _ _ c.heads-k-end.ensures.value, c.requires.0)
 
 pub returns-then-eq-clause-value : goal.returns-then-eq-clause-value
 returns-then-eq-clause-value c =
@@ -34,13 +17,6 @@ returns-then-eq-clause-value c =
     ∙ eqb-true _ _ (sym same ∙ sym c.eq.ensures ∙ c.if-eq.true) in
     naming_at _ (layout_is c.args.how c.args.r.now) _ _ _ c.requires.1.0 c.requires.1.1 _ c.place-p.ensures.value at.k (omega arith)
     at.invariant here
-
-pub loop-k-preserved : goal.loop-k-preserved
-loop-k-preserved c =
-    let same = equal_places _ _ c.named_by.ensures.few c.place-p.ensures.few in
-    least_more _ c.loop-k.k c.loop-k.invariant
-    (ap (λ (q : ℕ). eqb q (place_or c.place-p.result)) (sym (c.named_by.ensures.value ∙ ap (place_on sps93) c.line_of-l.ensures.value))
-    ∙ sym same ∙ sym c.eq.ensures ∙ c.if-eq.false)
 
 pub returns-clause-value : goal.returns-clause-value
 returns-clause-value c =
