@@ -100,9 +100,11 @@ pub data AskedBack (q : Record) (j m : ℕ) (v : ChannelAnswer) : Type 0 where
       → asked a.0.how a.1.0.now a.1.1.0.now a.1.1.1.0.now a.1.1.1.1.0.now a.0.«record» ≡ q
       → a.1.1.1.1.1.0 ≡ j → a.1.1.1.1.1.1.0 ≡ m → AskedBack q j m v
 
-moved_back : (o q : Record) (i j l m : ℕ) (v : ChannelAnswer) → paper_channel v ≡ back_of o i l → o ≡ q → i ≡ j → l ≡ m → paper_channel v ≡ back_of q j m
+moved_back : (o q : Record) (i j l m : ℕ) (v : ChannelAnswer) → paper_channel v ≡ back_of o i l → o ≡ q → i ≡ j → l ≡ m
+    → paper_channel v ≡ back_of q j m
 moved_back o q i j l m v p e f g =
-    subst (λ (n : ℕ). paper_channel v ≡ back_of q j n) g (subst (λ (n : ℕ). paper_channel v ≡ back_of q n l) f (subst (λ (u : Record). paper_channel v ≡ back_of u i l) e p))
+    subst (λ (n : ℕ). paper_channel v ≡ back_of q j n) g
+    (subst (λ (n : ℕ). paper_channel v ≡ back_of q n l) f (subst (λ (u : Record). paper_channel v ≡ back_of u i l) e p))
 
 asked_back : (q : Record) (j m : ℕ) (v : ChannelAnswer) → AskedBack q j m v → paper_channel v ≡ back_of q j m
 asked_back q j m v (by_channel κs a w p e f g) = moved_back _ q _ j _ m v p e f g

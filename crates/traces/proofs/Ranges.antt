@@ -1,38 +1,32 @@
 -- 20, by what the code finds of a question.
-use Prim.Native.Nat.{ℕ, ◌≤◌, ◌<◌}
+use Prim.Native.Nat.{ℕ, ◌≤◌}
 use mathlib.Core.Path.{◌≡◌, sym, ◌∙◌}
-use mathlib.Core.Bool.{Bool, true, false, ◌&&◌}
+use mathlib.Core.Bool.{Bool, true, false, ◌&&◌, not, and_assoc}
 use mathlib.Core.List.{List}
-use lib.Dec.{leb}
+use lib.Dec.{leb, eqb}
 use lib.ListN.{length, get_or}
-use borrow.Author.Tests.{eq-eqb, ne_eqb, le-leb, lt-leb}
 use Rattle.rules.specs.Places.{every}
 use Rattle.rules.specs.Text.{col}
 use Rattle.rules.specs.Kinds.{fits}
 use Rattle.rules.specs.Layout.{sps93}
 use Rattle.rules.specs.Disc.{printable}
 use Rattle.rules.specs.Questions.{record_asked, line_asked, component_asked}
-use Rattle.rules.proofs.Tests.{says}
+use Rattle.rules.proofs.Tests.{says, clash}
+
+-- a condition that is asked where the one before it is met
+pub and_then : (a b v : Bool) → a ≡ true → v ≡ b → v ≡ (a && b)
+and_then true b v e f = f
+and_then false b v e f = clash e
+
+pub and_else : (a b v : Bool) → a ≡ false → v ≡ a → v ≡ (a && b)
+and_else true b v e f = clash (sym e)
+and_else false b v e f = f
 
 -- a tape and a record
-module _ (t : List ℕ) (n : ℕ) where
-  pub other_length : (length t ≡ 6 → ⊥) → false ≡ record_asked sps93 t n
-  unfolding record_asked sps93
-  other_length e = rw (ne_eqb (length t) 6 e)
-
-  module _ (e : length t ≡ 6) (b : Bool) (q : b ≡ every (length t) (λ i. printable (get_or t i 0))) where
-    pub unprintable : b ≡ false → false ≡ record_asked sps93 t n
-    unfolding record_asked sps93
-    unprintable z = rw (eq-eqb (length t) 6 e, ← q, z)
-
-    module _ (z : b ≡ true) where
-      pub blank_first : get_or t 0 0 ≡ 32 → false ≡ record_asked sps93 t n
-      unfolding record_asked sps93 fits col
-      blank_first y = rw (eq-eqb (length t) 6 e, ← q, z, eq-eqb (get_or t 0 0) 32 y)
-
-      pub record_in : (get_or t 0 0 ≡ 32 → ⊥) → leb n 9999 ≡ record_asked sps93 t n
-      unfolding record_asked sps93 fits col
-      record_in y = rw (eq-eqb (length t) 6 e, ← q, z, ne_eqb (get_or t 0 0) 32 y)
+pub record_by : (t : List ℕ) (n : ℕ) (u v : Bool) → u ≡ (eqb (length t) 6 && every (length t) (λ i. printable (get_or t i 0)))
+    → v ≡ (u && not (eqb (get_or t 0 0) 32)) → (v && leb n 9999) ≡ record_asked sps93 t n
+unfolding record_asked sps93 fits col
+record_by t n u v e f = rw (f, e, and_assoc, and_assoc)
 
 -- an R line counts from 1
 pub line_asked_lem : (j m : ℕ) (b : Bool) → b ≡ (line_asked j && component_asked m) → b ≡ true → 1 ≤ j

@@ -8,7 +8,7 @@ use mathlib.Core.Path.{◌≡◌, refl, sym, ap, ◌∙◌}
 use mathlib.Core.List.{List, ◌++◌, append_assoc}
 use lib.ListN.{length, take, drop}
 use lib.Seq.{take_at, drop_at, drop-drop}
-use Rattle.rules.specs.Plan.{Refusal, №, fine, refused}
+use Rattle.rules.specs.Plan.{Refusal, fine, refused}
 use Rattle.rules.specs.Sheet.{Sheet}
 use Rattle.rules.specs.Check.{verdict, cross}
 use Rattle.rules.specs.Spread.{unless_refused}

@@ -1,10 +1,11 @@
 -- The way back, by what the code finds in a line of R and a line of X.
 use Prim.Native.Nat.{ℕ, ◌-◌, ◌≤◌, ◌<◌}
 use native.Mathlib.Omega.{arith}
-use mathlib.Core.Path.{◌≡◌, sym, ap, ◌∙◌}
-use mathlib.Core.Bool.{Bool, true, false}
+use mathlib.Core.Path.{◌≡◌, refl, sym, ap, ◌∙◌}
+use mathlib.Core.Bool.{Bool, true, false, ◌&&◌}
 use mathlib.Core.List.{List}
-use borrow.Author.Tests.{le-leb, lt-leb, lt-ltb}
+use lib.Dec.{leb}
+use borrow.Author.Tests.{le-leb, lt-leb, lt-ltb, leb-true}
 use Rattle.std.specs.Prelude.{None}
 use Rattle.shots.specs.Places.{line_in}
 use Rattle.traces.proofs.Sets.{none_there}
@@ -20,7 +21,7 @@ use Rattle.rules.specs.Cover.{covers, channel_of}
 use Rattle.rules.specs.Reaches.{reaches_of, search}
 use Rattle.rules.specs.Check.{channel, no_trace}
 use Rattle.rules.specs.Lookup.{reaches, found_back}
-use Rattle.rules.proofs.Tests.{clash, agree}
+use Rattle.rules.proofs.Tests.{clash, agree, and_is}
 use Rattle.rules.proofs.Cover.{covers_is, carried}
 use Rattle.rules.proofs.Order.{at_is}
 use Rattle.rules.proofs.Traces.{leads_is}
@@ -59,20 +60,7 @@ module _ (r x : Sheet) (i k m : ℕ) (wr : ReceiverLine r i) (wx : Known 3 x)
   pub number_small : n < 4294967296
   number_small = let a = point_number 1 r wr.0 i wr.1.0 in omega arith
 
-  pub not_covered : (b : Bool) → b ≡ covers (reach_at x k) n → b ≡ false → false ≡ reached
-  not_covered b e z =
-      sym (untrue _
-      (λ t.
-      let w = ((leads_is (point_at r i) m (reach_at x k)).0 t).1.1.0 in
-      clash (sym z ∙ e ∙ ap (covers (reach_at x k)) en ∙ (covers_is (reach_at x k) (point_at r i).number).1 w)))
-
-  pub no_component : m < 1 → false ≡ reached
-  no_component z = sym (untrue _ (λ t. let w = ((leads_is (point_at r i) m (reach_at x k)).0 t).1.1.1.0 in omega arith))
-
-  pub too_high : (s : ℕ) → s ≡ (reach_at x k).step → s < m → false ≡ reached
-  too_high s e z = sym (untrue _ (λ t. let w = ((leads_is (point_at r i) m (reach_at x k)).0 t).1.1.1.1 in omega arith))
-
-  pub by_key : (b : Bool) → b ≡ covers (reach_at x k) n → b ≡ true → 1 ≤ m → (s : ℕ) → s ≡ (reach_at x k).step → m ≤ s → (y : Key)
+  by_key : (b : Bool) → b ≡ covers (reach_at x k) n → b ≡ true → 1 ≤ m → (s : ℕ) → s ≡ (reach_at x k).step → m ≤ s → (y : Key)
       → y ≡ receiver_key x.layout (owned x k) n → (d : Bool) → d ≡ same_key (key_at Receivers r i) y → d ≡ reached
   by_key b e z o s es u y ey d ed =
       ed ∙ ap (same_key (key_at Receivers r i)) ey
@@ -85,6 +73,25 @@ module _ (r x : Sheet) (i k m : ℕ) (wr : ReceiverLine r i) (wx : Known 3 x)
       (λ t.
       let w = (leads_is (point_at r i) m (reach_at x k)).0 t in
       (at_is (reach_at x k).receiver n (reach_at x k).receiver_index (point_at r i)).1 (sym w.0, (sym en, sym w.1.0)))
+
+  -- u is whether the component is one of the increment's, and v whether the line covers the number too
+  module _ (u v : Bool) (eu : u ≡ (leb 1 m && leb m (reach_at x k).step)) (ev : v ≡ (u && covers (reach_at x k) n)) where
+    pub out_of_reach : v ≡ false → v ≡ reached
+    out_of_reach z =
+        z
+        ∙ sym (untrue _
+        (λ t.
+        let w = ((leads_is (point_at r i) m (reach_at x k)).0 t).1.1 in
+        let c : covers (reach_at x k) n ≡ true = ap (covers (reach_at x k)) en ∙ (covers_is (reach_at x k) (point_at r i).number).1 w.0 in
+        let l = le-leb 1 m w.1.0 in
+        let h = le-leb m (reach_at x k).step w.1.1 in
+        clash (sym z ∙ ev ∙ (rw (eu, l, h, c) refl))))
+
+    pub in_reach : v ≡ true → (y : Key) → y ≡ receiver_key x.layout (owned x k) n → (d : Bool) → d ≡ same_key (key_at Receivers r i) y → d ≡ reached
+    in_reach z =
+        let w = (and_is u (covers (reach_at x k) n)).0 (sym ev ∙ z) in
+        let p = (and_is (leb 1 m) (leb m (reach_at x k).step)).0 (sym eu ∙ w.0) in
+        by_key (covers (reach_at x k) n) refl w.1 (leb-true 1 m p.0) (reach_at x k).step refl (leb-true m (reach_at x k).step p.1)
 
 -- the channel of a line that reaches the receiver
 module _ (r x : Sheet) (ok : Accepted r x) (i k m : ℕ) (wr : ReceiverLine r i) (h : RelationLine x k)

@@ -33,16 +33,7 @@ fn all_printable(tape: &[u8]) -> bool
 pub fn record(tape: &[u8], number: u64) -> bool
     ensures value { result ≡ record_asked sps93 tape.now number }
 {
-    if tape.len() != 6 {
-        return false;
-    }
-    if !all_printable(tape) {
-        return false;
-    }
-    if tape[0] == 32 {
-        return false;
-    }
-    number <= MOST_RECORD
+    tape.len() == 6 && all_printable(tape) && tape[0] != 32 && number <= MOST_RECORD
 }
 
 // A channel, 1 to 9,999.

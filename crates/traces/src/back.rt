@@ -19,23 +19,12 @@ pub fn reaches(how: Reading, r: &[u8], i: usize, x: &[u8], k: usize, component: 
 {
     let number = relation::number_at(&lines::line_of(how, r, i), 18, 25);
     let q = relation::reach_of(&lines::line_of(how, x, k));
-    if !cover::covers(q, number as u64) {
-        return false;
-    }
-    if component < 1 {
-        return false;
-    }
-    if (q.step as u64) < component {
-        return false;
-    }
-    let y = keys::receiver_key(how, x, k, number);
-    keys::is_at(
-        Keyed {
-            how,
-            by: By::Receivers,
-        },
-        r,
-        i,
-        y,
-    )
+    let z = Keyed {
+        how,
+        by: By::Receivers,
+    };
+    let within = 1 <= component && component <= u64::from(q.step);
+    within
+        && cover::covers(q, u64::from(number))
+        && keys::is_at(z, r, i, keys::receiver_key(how, x, k, number))
 }

@@ -112,5 +112,6 @@ returns g c = let a = c.args in
           let m = ap length t ∙ turns_length (λ _. 0) c.highest-h.result a.components.now in
           whole R X a.tape.now a.«record» component_of refl (component_at X a.tape.now a.«record»)
           (component_at_lem R X a.tape.now a.«record») place numbers.places _ (length put) h (omega arith) _ _ _ t
-          (at.invariant.components ∙ ap (λ (i : ℕ). taken place (here_up_to X a.tape.now a.«record» i) (component_at X a.tape.now a.«record») (length put) put) z);
+          (at.invariant.components
+          ∙ ap (λ (i : ℕ). taken place (here_up_to X a.tape.now a.«record» i) (component_at X a.tape.now a.«record») (length put) put) z);
     }

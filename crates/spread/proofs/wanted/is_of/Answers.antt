@@ -24,6 +24,7 @@ returns-else-pack-w c = record {
             of_other a.how a.x.now a.w a.k _ c.line_of-l.ensures.value _ c.is_header.ensures.value w.if-not-is_header.true _ w.pack.ensures.value
             _ w.value-is c.if-pack-w.false
         | else-not-is_header w ↦
-            w.value-is ∙ ap not w.if-not-is_header.false ∙ of_header a.how a.x.now a.w a.k _ c.line_of-l.ensures.value _ c.is_header.ensures.value w.if-not-is_header.false
+            w.value-is ∙ ap not w.if-not-is_header.false
+            ∙ of_header a.how a.x.now a.w a.k _ c.line_of-l.ensures.value _ c.is_header.ensures.value w.if-not-is_header.false
       ];
 }
