@@ -9,6 +9,8 @@ use Rattle.rules.specs.Text.{col, cols}
 use Rattle.rules.specs.Numbers.{malformed, digits, whole as whole_of, decimal, then}
 use Rattle.rules.specs.Places.{pick}
 use Rattle.rules.specs.Kinds.{between, is_time, water}
+use Rattle.rules.proofs.Sizes.{whole_small}
+use Rattle.fields.proofs.Justified.{few}
 use Rattle.rules.proofs.Columns.{cols_end, cols_step, cols_take, cols_drop}
 
 module _ (l : List ℕ) (a : ℕ) (o : 1 ≤ a) where
@@ -64,3 +66,5 @@ module _ (bs : List ℕ) where
 pub first_column : (l : List ℕ) (a b : ℕ) → 1 ≤ a → a ≤ b → col (cols l a b) 1 ≡ get_or l (a - 1) 0
 unfolding col
 first_column l a b o h = rw (cols_step l a o b h)
+
+pub ruleset waters = (water_metres, water_none, water_tenths, few, whole_small)

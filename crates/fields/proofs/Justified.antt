@@ -9,10 +9,10 @@ use lib.Dec.{eqb, leb, ltb}
 use lib.ListN.{length, get_or, take}
 use borrow.Author.Tests.{le-leb, lt-leb, leb-true, leb-false, ltb-true, ltb-false, eq-eqb, ne_eqb}
 use Rattle.rules.proofs.Tests.{says}
-use Rattle.rules.proofs.Sizes.{Small, small_more}
+use Rattle.rules.proofs.Sizes.{whole_small, signed_small, Small, small_more}
 use Rattle.rules.specs.Places.{pick}
 use Rattle.rules.specs.Text.{col, cols}
-use Rattle.rules.specs.Numbers.{digit, Number, malformed, digits, justified, negative, minus_or, then, pointed, decimal, tenths, size}
+use Rattle.rules.specs.Numbers.{digit, Number, malformed, digits, justified, negative, minus_or, then, pointed, decimal, size}
 use Rattle.rules.proofs.Columns.{cols_end, cols_step, cols_length, cols_at, cols_take}
 use Rattle.std.specs.Prelude.{Option, None, Some}
 use Rattle.fields.specs.Paper.{number}
@@ -119,23 +119,9 @@ module _ (read : List ℕ → Number) (l : List ℕ) (a b : ℕ) (o : 1 ≤ a) w
   unfolding decimal pointed tenths_of point_digit
   decimal_long h = rw (wide l a b o h, before l a b o h, last l a b o h, front l a b o h)
 
--- tenths in either spelling, by whether there is a point
-module _ (read : List ℕ → Number) (bs : List ℕ) (t : Bool) (e : t ≡ pointed bs) where
-  pub with_point_lem : t ≡ true → decimal read bs ≡ tenths read bs
-  unfolding tenths pick
-  with_point_lem y = rw (← e, y)
-
-  pub without_point : t ≡ false → read bs ≡ tenths read bs
-  unfolding tenths pick
-  without_point n = rw (← e, n)
-
--- what was read, where it is a number or none
-module _ (o : Option Read) (v : Number) (e : number o ≡ v) where
-  pub none_read : o ≡ None → malformed ≡ v
-  none_read q = ap number (sym q) ∙ e
-
-  pub some_read : (n : Read) → o ≡ Some n → number (Some n) ≡ v
-  some_read n q = ap number (sym q) ∙ e
+-- none was read
+pub none_read : (o : Option Read) (v : Number) → number o ≡ v → o ≡ None → malformed ≡ v
+none_read o v e q = ap number (sym q) ∙ e
 
 -- no number before the point
 pub decimal_none : (read : List ℕ → Number) (l : List ℕ) (a b : ℕ) → 1 ≤ a → a < b → malformed ≡ read (cols l a (b - 2))
@@ -152,18 +138,10 @@ pub point_digit_is : (l : List ℕ) (b : ℕ) → point_digit l b ≡ true → (
 unfolding point_digit digit
 point_digit_is l b e = (simp says at e).1
 
-module _ (l : List ℕ) (b : ℕ) (v : Number) (t : Bool) (q : t ≡ point_digit l b) where
-  pub tenths_none : t ≡ false → malformed ≡ tenths_of l b v
-  unfolding tenths_of pick
-  tenths_none e = rw (← q, e)
-
-  pub tenths_some : t ≡ true → then v (get_or l (b - 1) 0 - 48) ≡ tenths_of l b v
-  unfolding tenths_of pick
-  tenths_some e = rw (← q, e)
-
-  pub tenths_digit : t ≡ true → (48 ≤ get_or l (b - 1) 0) × (get_or l (b - 1) 0 ≤ 57)
-  tenths_digit e = point_digit_is l b (sym q ∙ e)
-
 -- the size of what stands in at most 16 columns
 pub few : (v : Number) (l : List ℕ) (a b : ℕ) → 1 ≤ a → b < a + 16 → Small v (length (cols l a b)) → size v < 10 ^ 16
 few v l a b o h s = let n = cols_length l a o b in small_more v (length (cols l a b)) 16 (omega arith) s
+
+pub ruleset signs = (ink_none, ink_some, minus_some, minus_other)
+
+pub ruleset decimals = (decimal_long, decimal_none, decimal_short, few, whole_small, signed_small)

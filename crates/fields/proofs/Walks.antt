@@ -93,3 +93,9 @@ module _ (l : List ℕ) (c b : ℕ) (o : 1 ≤ c) (v X : ℕ) (e : packed_after 
   pub packed_step : (d : ℕ) → c ≤ b → d ≡ get_or l (c - 1) 0 → packed_after (256 * v + d) (cols l (c + 1) b) ≡ X
   unfolding packed_after
   packed_step d h r = rw r ((rw (cols_step l c o b h)) ∙ e)
+
+pub ruleset ink_walk = (ink_end, ink_step, ink_stop)
+
+pub ruleset digits_walk = (none, digits_end, digits_none, digits_some)
+
+pub ruleset packed_walk = (none, packed_end)

@@ -5,6 +5,7 @@ ghost use Rattle.rules.specs.Text.{cols, blank as is_blank, same as is_same};
 ghost use Rattle.rules.specs.Kinds.{index_of};
 
 // Columns a to b, none where b is before a.
+#[tactic(auto, using(crate::proofs::Columns::none_is_cols, crate::proofs::Columns::part_is_cols))]
 pub(crate) fn columns(l: &[u8; 80], a: usize, b: usize) -> &[u8]
     requires { (1 ≤ a) × (b ≤ 80) }
     ensures value { result.now ≡ cols l.now a b }

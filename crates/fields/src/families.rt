@@ -80,6 +80,7 @@ fn any_takes(i: u8, b: u8, d: u8) -> bool
 }
 
 // The bytes b and d are a code of file i: a code of one of the families.
+#[tactic(auto, using(crate::proofs::Rows::rows_decide))]
 pub fn is_code(i: u8, b: u8, d: u8) -> bool
     ensures value { result ≡ is_code i (b ∷ d ∷ []) }
 {

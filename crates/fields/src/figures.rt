@@ -24,6 +24,7 @@ pub fn number(l: &[u8; 80], a: usize, b: usize) -> u64
 }
 
 // The index in column a.
+#[tactic(auto, using(crate::proofs::LowHalves::index_one, crate::proofs::LowHalves::index_low))]
 pub fn index(l: &[u8; 80], a: usize) -> u64
     requires { (1 ≤ a) × (a ≤ 80) }
     ensures value { result ≡ low_index (cols l.now a a) }

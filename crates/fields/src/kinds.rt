@@ -1,3 +1,4 @@
+#![tactic(auto, unfolding(rules::specs::Kinds::fits))]
 // The rules of fields, one function a rule, over the columns and the rule's own numbers.
 ghost use Rattle.std.specs.Prelude.{◌≡◌, ◌||◌, ℕ, ◌+◌, ◌≤◌, ◌<◌, eqb};
 ghost use Rattle.std.specs.List.{list_all};
@@ -10,6 +11,7 @@ ghost use Rattle.rules.specs.Kinds.{whole_number, signed_number, signed_decimal,
 use crate::{bytes, families, numbers, ranges};
 
 // The first column, a, is not blank.
+#[tactic(auto, using(crate::proofs::Codes::first_column), unfolding(rules::specs::Kinds::fits))]
 pub fn starts_non_blank(l: &[u8; 80], a: usize) -> bool
     requires { (1 ≤ a) × (a ≤ 80) }
     ensures value { (b : ℕ) → a ≤ b → result ≡ fits_kind starts_non_blank (cols l.now a b) }
@@ -24,6 +26,7 @@ fn all_digits(columns: &[u8]) -> bool
 }
 
 // Digits alone.
+#[tactic(auto, using(crate::proofs::Chains::digits_by_test), unfolding(rules::specs::Kinds::fits))]
 pub fn digits_only(l: &[u8; 80], a: usize, b: usize) -> bool
     requires { (1 ≤ a) × (b ≤ 80) }
     ensures value { result ≡ fits_kind digits_only (cols l.now a b) }
@@ -47,6 +50,7 @@ fn index_byte(b: u8) -> bool
 }
 
 // An index in column a: 1-9, or blank.
+#[tactic(auto, using(crate::proofs::Codes::first_column), unfolding(rules::specs::Kinds::fits))]
 pub fn index(l: &[u8; 80], a: usize) -> bool
     requires { (1 ≤ a) × (a ≤ 80) }
     ensures value { (b : ℕ) → a ≤ b → result ≡ fits_kind an_index (cols l.now a b) }
@@ -63,6 +67,7 @@ pub fn water_depth(l: &[u8; 80], a: usize, b: usize) -> bool
 }
 
 // Six digits from column a on, 000000 to 235959, minutes and seconds below 60.
+#[tactic(auto, using(crate::proofs::Codes::time_is), unfolding(rules::specs::Kinds::fits))]
 pub fn time(l: &[u8; 80], a: usize) -> bool
     requires { (1 ≤ a) × (a ≤ 75) }
     ensures value { result ≡ fits_kind a_time (cols l.now a (a + 5)) }
@@ -105,6 +110,7 @@ pub fn decimal_number(n: u64, l: &[u8; 80], a: usize, b: usize) -> bool
 }
 
 // A point code of file i in the two columns from a on.
+#[tactic(auto, using(crate::proofs::Codes::two_columns), unfolding(rules::specs::Kinds::fits))]
 pub fn code(i: u8, l: &[u8; 80], a: usize) -> bool
     requires { (1 ≤ a) × (a ≤ 79) }
     ensures value { result ≡ fits_kind (a_code i) (cols l.now a (a + 1)) }

@@ -7,6 +7,7 @@ ghost use Rattle.fields.specs.Packed.{packed, name_of};
 use crate::Name;
 
 // Columns a to b, at most 8, as one number.
+#[tactic(auto, using(crate::proofs::Walks::packed_walk))]
 pub fn pack(l: &[u8; 80], a: usize, b: usize) -> u64
     requires { (1 ≤ a) × ((b ≤ 80) × (b < a + 8)) }
     ensures value { result ≡ packed (cols l.now a b) }
@@ -19,6 +20,7 @@ pub fn pack(l: &[u8; 80], a: usize, b: usize) -> u64
 }
 
 // The line name in the 16 columns from a on.
+#[tactic(auto, using(crate::proofs::Packed::name_hi, crate::proofs::Packed::name_lo))]
 pub fn name(l: &[u8; 80], a: usize) -> Name
     requires { (1 ≤ a) × (a ≤ 65) }
     ensures value { result ≡ name_of (text (cols l.now a (a + 15))) }

@@ -12,6 +12,7 @@ ghost use Rattle.fields.specs.Ink.{ink_from, point_digit, tenths_of};
 use crate::{Number, ranges};
 
 // The first column that is not blank.
+#[tactic(auto, using(crate::proofs::Walks::ink_walk))]
 fn ink(l: &[u8; 80], a: usize, b: usize) -> Option<usize>
     requires { (1 ≤ a) × (b ≤ 80) }
     ensures value { result ≡ ink_from a (cols l.now a b) }
@@ -26,6 +27,7 @@ fn ink(l: &[u8; 80], a: usize, b: usize) -> Option<usize>
 }
 
 // Digits to the last column, at least one.
+#[tactic(auto, using(crate::proofs::Walks::digits_walk))]
 pub fn digits(l: &[u8; 80], a: usize, b: usize) -> Option<Number>
     requires { (1 ≤ a) × ((b ≤ 80) × (b < a + 16)) }
     ensures value { number result ≡ digits_of (cols l.now a b) }
@@ -45,6 +47,7 @@ pub fn digits(l: &[u8; 80], a: usize, b: usize) -> Option<Number>
 }
 
 // A whole number: blanks, then digits to the last column.
+#[tactic(auto, using(crate::proofs::Justified::signs), unfolding(rules::specs::Numbers::whole))]
 pub fn whole(l: &[u8; 80], a: usize, b: usize) -> Option<Number>
     requires { (1 ≤ a) × ((b ≤ 80) × (b < a + 16)) }
     ensures value { number result ≡ whole_of (cols l.now a b) }
@@ -64,6 +67,7 @@ fn negative(n: Number) -> Option<Number>
 }
 
 // A whole number with an optional minus before its digits.
+#[tactic(auto, using(crate::proofs::Justified::signs), unfolding(rules::specs::Numbers::signed, rules::specs::Numbers::negative))]
 pub fn signed(l: &[u8; 80], a: usize, b: usize) -> Option<Number>
     requires { (1 ≤ a) × ((b ≤ 80) × (b < a + 16)) }
     ensures value { number result ≡ signed_of (cols l.now a b) }
@@ -76,7 +80,7 @@ pub fn signed(l: &[u8; 80], a: usize, b: usize) -> Option<Number>
 }
 
 // A number and one digit more.
-#[tactic(auto, unfolding(rules::specs::Numbers::then))]
+#[tactic(auto, unfolding(rules::specs::Numbers::then, rules::specs::Numbers::size))]
 fn then(n: Number, d: u8) -> Number
     requires { (size_of (number (Some n)) < 10 ^ 16) × (d ≤ 9) }
     ensures value { number (Some result) ≡ then_of (number (Some n)) d }
@@ -97,6 +101,7 @@ fn point_digit(l: &[u8; 80], b: usize) -> bool
 }
 
 // The number n before the point, and the digit after it.
+#[tactic(auto, using(crate::proofs::Justified::point_digit_is), unfolding(crate::specs::Ink::tenths_of, rules::specs::Places::pick))]
 fn tenths(l: &[u8; 80], b: usize, n: Number) -> Option<Number>
     requires { (2 ≤ b) × ((b ≤ 80) × (size_of (number (Some n)) < 10 ^ 16)) }
     ensures value { number result ≡ tenths_of l.now b (number (Some n)) }
@@ -108,6 +113,7 @@ fn tenths(l: &[u8; 80], b: usize, n: Number) -> Option<Number>
 }
 
 // A number, a point and one digit, in tenths.
+#[tactic(auto, using(crate::proofs::Justified::decimals))]
 fn pointed(l: &[u8; 80], a: usize, b: usize) -> Option<Number>
     requires { (1 ≤ a) × ((b ≤ 80) × (b < a + 16)) }
     ensures value { number result ≡ decimal_of whole_of (cols l.now a b) }
@@ -118,7 +124,8 @@ fn pointed(l: &[u8; 80], a: usize, b: usize) -> Option<Number>
     tenths(l, b, whole(l, a, b - 2)?)
 }
 
-// The same with an optional minus.
+// The same with an optional minus. The reader as an argument would take a longer contract than both functions have.
+#[tactic(auto, using(crate::proofs::Justified::decimals))]
 fn signed_pointed(l: &[u8; 80], a: usize, b: usize) -> Option<Number>
     requires { (1 ≤ a) × ((b ≤ 80) × (b < a + 16)) }
     ensures value { number result ≡ decimal_of signed_of (cols l.now a b) }
@@ -130,6 +137,7 @@ fn signed_pointed(l: &[u8; 80], a: usize, b: usize) -> Option<Number>
 }
 
 // A point stands in the last column but one.
+#[tactic(auto, using(crate::proofs::Justified::pointed_is))]
 fn is_pointed(l: &[u8; 80], a: usize, b: usize) -> bool
     requires { (1 ≤ a) × (b ≤ 80) }
     ensures value { result ≡ pointed_in (cols l.now a b) }
@@ -138,6 +146,7 @@ fn is_pointed(l: &[u8; 80], a: usize, b: usize) -> bool
 }
 
 // A decimal that has no sign, in tenths: with a point and one digit after it, or digits alone, which count tenths.
+#[tactic(auto, unfolding(rules::specs::Numbers::tenths, rules::specs::Places::pick))]
 pub fn decimal(l: &[u8; 80], a: usize, b: usize) -> Option<Number>
     requires { (1 ≤ a) × ((b ≤ 80) × (b < a + 16)) }
     ensures value { number result ≡ spelled_of whole_of (cols l.now a b) }
@@ -149,6 +158,7 @@ pub fn decimal(l: &[u8; 80], a: usize, b: usize) -> Option<Number>
 }
 
 // The same with an optional minus.
+#[tactic(auto, unfolding(rules::specs::Numbers::tenths, rules::specs::Places::pick))]
 pub fn signed_decimal(l: &[u8; 80], a: usize, b: usize) -> Option<Number>
     requires { (1 ≤ a) × ((b ≤ 80) × (b < a + 16)) }
     ensures value { number result ≡ spelled_of signed_of (cols l.now a b) }
@@ -160,6 +170,7 @@ pub fn signed_decimal(l: &[u8; 80], a: usize, b: usize) -> Option<Number>
 }
 
 // Water depth in tenths: a decimal with its point, 0 to 99.9, or whole metres, 0 to 999.
+#[tactic(auto, using(crate::proofs::Codes::waters), unfolding(rules::specs::Kinds::between, rules::specs::Numbers::then))]
 pub fn water(l: &[u8; 80], a: usize, b: usize) -> Option<Number>
     requires { (1 ≤ a) × ((b ≤ 80) × (b < a + 16)) }
     ensures value { number result ≡ water_of (cols l.now a b) }

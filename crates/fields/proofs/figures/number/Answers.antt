@@ -1,17 +1,7 @@
 -- What `fields::figures::number` leaves to show.
-use mathlib.Core.Path.{refl}
 use native.Mathlib.Omega.{arith}
-use Rattle.fields.proofs.LowHalves.{figures_end, figures_step, room_none, room_more, room_eight}
+use Rattle.fields.proofs.LowHalves.{figures_end, figures_step, room_more, room_eight}
 use Rattle.fields.proofs.figures.number.Goals as goal
-
-pub loop-c-init : goal.loop-c-init
-loop-c-init c = record { within = omega arith; room = room_none _; read = refl }
-
-pub overflow_mul-v : goal.overflow_mul-v
-overflow_mul-v c = let h = room_eight _ _ _ c.loop-c.invariant.room c.loop-c.invariant.within in omega arith
-
-pub overflow_add-v : goal.overflow_add-v
-overflow_add-v c = let h = room_eight _ _ _ c.loop-c.invariant.room c.loop-c.invariant.within in omega (arith, c.low.ensures.value)
 
 pub loop-c-preserved : goal.loop-c-preserved
 loop-c-preserved c = record {

@@ -1,13 +1,7 @@
 -- What `fields::numbers::digits` leaves to show.
 use native.Mathlib.Omega.{arith}
-use Rattle.fields.proofs.Walks.{cap, digit_value, digits_end, digits_none, digits_some, digits_step, digits_stop, grow, none}
+use Rattle.fields.proofs.Walks.{cap, digit_value, digits_step, digits_stop, grow}
 use Rattle.fields.proofs.numbers.digits.Goals as goal
-
-pub returns-then-b-a : goal.returns-then-b-a
-returns-then-b-a c = record { value = digits_none _ _ _ c.requires.0 c.if-b-a.true }
-
-pub loop-c-init : goal.loop-c-init
-loop-c-init c = record { small = none 10 _ (omega arith); read = digits_some _ _ _ c.requires.0 c.if-b-a.false }
 
 pub returns-then-not-is_ascii_digit : goal.returns-then-not-is_ascii_digit
 returns-then-not-is_ascii_digit c = record {
@@ -25,6 +19,3 @@ loop-c-preserved c = record {
   small = grow c.args.a _ (omega arith) c.loop-c.invariant.small (digit_value _ _ _ c.is_ascii_digit.ensures.value c.if-not-is_ascii_digit.false c.from.ensures);
   read = digits_step _ _ _ (omega arith) _ _ c.loop-c.invariant.read (omega arith) _ c.is_ascii_digit.ensures.value _ c.if-not-is_ascii_digit.false c.from.ensures;
 }
-
-pub returns : goal.returns
-returns c = record { value = digits_end _ _ _ (omega arith) _ _ c.loop-c.invariant.read (omega arith) }
