@@ -36,6 +36,7 @@ fn field(first: usize, last: usize, kind: Kind, blank: bool, free: bool) -> Row
     }
 }
 
+// The rows by their number: a constant holds no call of `field`, and a row written out takes seven lines.
 #[tactic(auto, unfolding(rules::specs::Rows::header_rows, rules::specs::Layout::sps93, fields::specs::Paper::sized))]
 fn header_row(j: usize) -> Row
     requires { j < 2 }

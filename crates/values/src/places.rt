@@ -13,7 +13,7 @@ fn held(v: Option<i64>) -> u64
     v.unwrap_or(i64::MIN).cast_unsigned()
 }
 
-// 0 of a live point, 1 of a killed one, 2 of a marker.
+// 0 of a live point, 1 of a killed one, 2 of a marker: numbers of the places alone, so no conversion of the state.
 pub fn state_number(s: State) -> u64
     ensures value { result ≡ state_number s }
 {

@@ -15,7 +15,7 @@ use crate::values::Value;
 use fields::{Kind, Name};
 use records::table::Row;
 
-// Adds the minus of a number below 0.
+// Adds the minus of a number below 0. Sign and size go apart below: tenths are divided between the two.
 fn sign(minus: bool, out: &mut [u8; 40], at: usize) -> usize
     requires { at ≤ 16 }
     ensures added { Adds out.old at (sign_of minus) out.new result }
