@@ -9,7 +9,7 @@ ghost use Rattle.keys.specs.Keyed.{takes_in};
 ghost use Rattle.rules.specs.TraceRows.{traces_at};
 
 use fields::figures;
-use keys::{By, Keyed};
+use keys::Keyed;
 use lines::Reading;
 
 // How many lines of a file have a key of that kind.
@@ -31,13 +31,7 @@ pub fn points(how: Reading, f: &[u8]) -> u64
     requires { (sheet_of how f.now).count ≤ most_lines }
     ensures value { result ≡ points_of (sheet_of how f.now) }
 {
-    keyed(
-        Keyed {
-            how,
-            by: By::Points,
-        },
-        f,
-    )
+    keyed(Keyed::points(how), f)
 }
 
 // How many relation lines X has.
@@ -45,13 +39,7 @@ pub fn relations(how: Reading, x: &[u8]) -> u64
     requires { (sheet_of how x.now).count ≤ most_lines }
     ensures value { result ≡ relations_of (sheet_of how x.now) }
 {
-    keyed(
-        Keyed {
-            how,
-            by: By::Records,
-        },
-        x,
-    )
+    keyed(Keyed::records(how), x)
 }
 
 // How many channels there are from the first to the last.
@@ -68,10 +56,7 @@ fn line_traces(how: Reading, x: &[u8], k: usize) -> u64
     ensures value { result ≡ traces_at (sheet_of how x.now) k }
     ensures small { result < 4294967296 }
 {
-    let z = Keyed {
-        how,
-        by: By::Records,
-    };
+    let z = Keyed::records(how);
     if !keys::takes(z, x, k) {
         return 0;
     }

@@ -10,7 +10,7 @@ ghost use Rattle.relations.specs.Walk.{all_relate};
 ghost use Rattle.sets.specs.Paper.{paper, cross_on, forms_of, points_of, across as across_of, counts as counts_of, answered_across};
 ghost use Rattle.sets.specs.Paper.{KnownSet, Headed, Met, Ordered, Arrays};
 
-use keys::{By, Keyed};
+use keys::Keyed;
 use lines::{Reading, Refusal, Verdict};
 
 mod counting;
@@ -47,24 +47,8 @@ fn relations_across(
     requires { Ordered (sheet_of how r.now) (sheet_of how s.now) (sheet_of how x.now) × Arrays o.old p.old }
     ensures verdict { verdict_of result ≡ run (all_relate (sheet_of how r.now) (sheet_of how s.now) (sheet_of how x.now)) }
 {
-    let apart = order::first_repeat(
-        Keyed {
-            how,
-            by: By::Records,
-        },
-        x,
-        o,
-        p,
-    );
-    let m = order::in_order(
-        Keyed {
-            how,
-            by: By::Receivers,
-        },
-        r,
-        o,
-        p,
-    );
+    let apart = order::first_repeat(Keyed::records(how), x, o, p);
+    let m = order::in_order(Keyed::receivers(how), r, o, p);
     relations::relations_fit(how, r, &o[..m], s, x, apart, p)
 }
 
@@ -75,15 +59,7 @@ fn points_across(how: Reading, r: &[u8], s: &[u8], o: &mut [u32], p: &mut [u32])
     ensures verdict { verdict_of result ≡ run (points_of (sheet_of how r.now) (sheet_of how s.now)) }
 {
     points::receivers::receivers_fit(how, r)?;
-    let again = order::first_repeat(
-        Keyed {
-            how,
-            by: By::Points,
-        },
-        s,
-        o,
-        p,
-    );
+    let again = order::first_repeat(Keyed::points(how), s, o, p);
     points::shots::shots_fit(how, s, again)
 }
 

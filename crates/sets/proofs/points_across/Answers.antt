@@ -7,10 +7,10 @@ use Rattle.sets.proofs.points_across.Goals as goal
 pub first_repeat-again-requires : goal.first_repeat-again-requires
 first_repeat-again-requires c = let p = c.requires in
     let few = p.0.1.few in
-    (small_keys 2 _ p.0.1 Points, (few, (omega (arith, few, p.1.0), omega (arith, few, p.1.1))))
+    rw c.points.ensures.value (small_keys 2 _ p.0.1 Points, (few, (omega (arith, few, p.1.0), omega (arith, few, p.1.1))))
 
 pub shots_fit-requires : goal.shots_fit-requires
 shots_fit-requires c = (
   c.requires.0.1,
-  (c.first_repeat-again.ensures.value, omega arith),
+  (rw c.points.ensures.value at c.first_repeat-again.ensures.value, omega arith),
 )

@@ -11,12 +11,12 @@ use Rattle.sets.proofs.relations_across.Goals as goal
 pub first_repeat-apart-requires : goal.first_repeat-apart-requires
 first_repeat-apart-requires c = let p = c.requires in
     let few = p.0.relations.few in
-    (small_keys 3 _ p.0.relations Records, (few, (omega (arith, few, p.1.0), omega (arith, few, p.1.1))))
+    rw c.records.ensures.value (small_keys 3 _ p.0.relations Records, (few, (omega (arith, few, p.1.0), omega (arith, few, p.1.1))))
 
 pub in_order-m-requires : goal.in_order-m-requires
 in_order-m-requires c = let p = c.requires in
     let few = p.0.receivers.0.few in
-    (small_keys 1 _ p.0.receivers.0 Receivers, (few, (omega (arith, few, p.1.0), omega (arith, few, p.1.1))))
+    rw c.receivers.ensures.value (small_keys 1 _ p.0.receivers.0 Receivers, (few, (omega (arith, few, p.1.0), omega (arith, few, p.1.1))))
 
 pub slice_bounds-relations_fit-end-2 : goal.slice_bounds-relations_fit-end-2
 slice_bounds-relations_fit-end-2 c = sym (length-take-le _ _ c.in_order-m.ensures.order.room)
@@ -25,13 +25,13 @@ pub relations_fit-requires : goal.relations_fit-requires
 relations_fit-requires c = let a = c.args in
     let p = c.requires in
     let i = c.in_order-m in
-    let rows = i.ensures.order in
+    let rows = rw c.receivers.ensures.value at i.ensures.order in
     record {
       receivers = p.0.receivers;
       rows = order_taken _ _ _ _ _ rows;
       shots = p.0.shots;
       relations = p.0.relations;
       alike = rank_same a.how a.r.now a.x.now;
-      first = c.first_repeat-apart.ensures.value;
+      first = rw c.records.ensures.value at c.first_repeat-apart.ensures.value;
       room = omega (arith, few_rows 1 _ p.0.receivers.0 Receivers _ _ rows, p.1.1, c.first_repeat-apart.auto, i.auto);
     }

@@ -10,5 +10,5 @@ pub returns : goal.returns
 unfolding points
 returns c = record {
   value = let a = c.args in
-      c.keyed.ensures.value ∙ count_alike _ _ _ (takes_point (sheet_of a.how a.f.now));
+      (rw c.points.ensures.value at c.keyed.ensures.value) ∙ count_alike _ _ _ (takes_point (sheet_of a.how a.f.now));
 }

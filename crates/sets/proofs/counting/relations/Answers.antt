@@ -10,5 +10,5 @@ pub returns : goal.returns
 unfolding relations
 returns c = record {
   value = let a = c.args in
-      c.keyed.ensures.value ∙ count_alike _ _ _ (takes_record (sheet_of a.how a.x.now));
+      (rw c.records.ensures.value at c.keyed.ensures.value) ∙ count_alike _ _ _ (takes_record (sheet_of a.how a.x.now));
 }
