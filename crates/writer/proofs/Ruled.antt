@@ -1,19 +1,20 @@
 -- A field's rule, by what the code holds of it.
 use Prim.Native.Nat.{ℕ, ◌+◌, ◌≤◌}
 use native.Mathlib.Omega.{arith}
-use mathlib.Core.Path.{◌≡◌, refl, sym, ap, ◌∙◌}
+use mathlib.Core.Path.{◌≡◌, refl, sym, ap, ◌∙◌, subst}
 use mathlib.Core.Bool.{Bool, true, false, not, ◌&&◌}
 use mathlib.Core.List.{List, []}
+use borrow.Author.Tests.{eqb-true}
 use lib.IntN.{ℤ}
 use Rattle.rules.specs.Kinds.{Kind as PaperKind}
 use Rattle.rules.specs.Spelled.{allows_text, allows_number, allows_nothing, allows, spelled_as}
 use Rattle.rules.specs.Writer.{width_of}
 use Rattle.rules.proofs.Tests.{clash}
-use Rattle.fields.specs.Paper.{kind, sized}
+use Rattle.fields.specs.Paper.{kind, wide, sized}
 use Rattle.fields.specs.declared.Kind.{Kind}
 use Rattle.fields.specs.declared.Kind.TheVariants.{StartsNonBlank, DigitsOnly, Coordinate, Index, WaterDepth, Time}
 use Rattle.fields.specs.declared.Kind.TheVariants.{WholeNumber, SignedNumber, SignedDecimal, DecimalNumber, Code}
-use Rattle.fields.proofs.Widths.{sized_is, code_wide}
+use Rattle.fields.proofs.Widths.{sized_is}
 use Rattle.records.specs.Coded.{or_blank, row_of}
 use Rattle.records.specs.declared.table.Row.{Row}
 use Rattle.rules.specs.Carried.{bytes_of}
@@ -37,7 +38,7 @@ module _ (w : Row) (s : sized w.kind w.first w.last ≡ true) where
   pub width_two : (i : ℕ) → w.kind ≡ Code i → width_of (row_of w).columns ≡ 2
   width_two i e =
       let h = sized_is w.kind w.first w.last s in
-      let q : w.last ≡ w.first + 1 = code_wide w.kind w.first w.last i e h.1.1.1.1 in
+      let q = eqb-true w.last (w.first + 1) (subst (λ (k : Kind). wide k w.first w.last ≡ true) e h.1.1.1.1) in
       omega arith
 
 pub two_text : (w hi lo : ℕ) → w ≡ 2 → text_of w hi lo ≡ bytes_of 2 lo
