@@ -1,4 +1,4 @@
-#![tactic(auto)]
+#![tactic(auto, unfolding(crate::specs::Rows::is_row))]
 // Receivers in the order of name, index and number: the receivers of a relation line are neighbours there. o holds the lines of R in that
 // order; a place of it is a row. 18 takes two looks: the row of the lowest receiver, and the row of the highest, as far behind it as their numbers.
 ghost use Rattle.std.specs.Prelude.{◌≡◌, ◌<◌, length};
@@ -14,17 +14,7 @@ use fields::figures;
 use keys::{Key, Keyed};
 use lines::Reading;
 
-// Row e is not below the key y.
-#[tactic(auto, unfolding(crate::specs::Rows::not_below))]
-fn not_below(how: Reading, r: &[u8], o: &[u32], e: usize, y: Key) -> bool
-    requires { e < length o.now }
-    ensures value { result ≡ not_below (sheet_of how r.now) o.now y e }
-{
-    !keys::below(Keyed::receivers(how), r, o[e] as usize, y, false)
-}
-
 // Row e has the key y.
-#[tactic(auto, unfolding(crate::specs::Rows::is_row))]
 fn is_row(how: Reading, r: &[u8], o: &[u32], e: usize, y: Key) -> bool
     requires { e < length o.now }
     ensures value { result ≡ is_row_of (sheet_of how r.now) o.now y e }
@@ -37,17 +27,7 @@ fn first_from(how: Reading, r: &[u8], o: &[u32], y: Key) -> usize
     requires { KnownReceivers (sheet_of how r.now) × Rows (sheet_of how r.now) o.now }
     ensures value { result ≡ least (length o.now) (not_below (sheet_of how r.now) o.now y) }
 {
-    let mut low = 0;
-    let mut high = o.len();
-    while low < high {
-        let mid = low + (high - low) / 2;
-        if not_below(how, r, o, mid, y) {
-            high = mid;
-        } else {
-            low = mid + 1;
-        }
-    }
-    low
+    o.partition_point(|line| keys::below(Keyed::receivers(how), r, *line as usize, y, false))
 }
 
 // The row of the receiver with the key y; the number of rows where there is none, as `least` of the rules has it.

@@ -1,5 +1,5 @@
 -- What `receivers::all_there` leaves to show.
-use Rattle.std.proofs.Common.{◌∙◌, sym, arith}
+use Rattle.std.proofs.Common.{◌∙◌, arith}
 use borrow.Author.Tests.{le-ltb}
 use Rattle.receivers.proofs.There.{first_below, too_few, last_tells}
 use Rattle.receivers.proofs.Numbers.{key_is, lowest_read, highest_read}
