@@ -65,6 +65,7 @@ fn pairs_apart(how: Reading, x: &[u8], k: usize, start: usize) -> bool
 }
 
 // The mark of the record that begins in line `start`: no other record has it.
+#[tactic(auto, unfolding(rules::specs::Sheet::most_lines))]
 fn mark_of(start: usize) -> u32
     requires { start ≤ most_lines }
     ensures value { result ≡ start + 1 }

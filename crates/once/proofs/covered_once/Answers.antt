@@ -1,16 +1,9 @@
 -- What `once::covered_once` leaves to show.
-use mathlib.Core.Path.{refl, ◌∙◌}
+use mathlib.Core.Path.{◌∙◌}
 use native.Mathlib.Omega.{arith}
-use Rattle.rules.specs.Sheet.{most_lines}
-use Rattle.once.proofs.Keeping.{few_lines, found, unmarked, kept_few, kept_now, kept_more, never_fine}
+use Rattle.once.proofs.Keeping.{few_lines, unmarked, kept_few, kept_now, kept_more, never_fine}
 use Rattle.once.proofs.Decided.{column, pairs_fine, pairs_broken, marks_fine, marks_broken}
 use Rattle.once.proofs.covered_once.Goals as goal
-
-pub overflow_sub-k : goal.overflow_sub-k
-overflow_sub-k c = c.requires.lines.0
-
-pub pairs_apart-requires : goal.pairs_apart-requires
-pairs_apart-requires c = (c.requires.relations, c.requires.lines)
 
 pub at_line-requires : goal.at_line-requires
 at_line-requires c = let h = few_lines _ _ _ _ _ _ c.requires in
@@ -25,10 +18,6 @@ returns-then-not-pairs_apart c = let v = c.at_line.ensures.verdict in
 
 pub overflow_add-k : goal.overflow_add-k
 overflow_add-k c = let h = few_lines _ _ _ _ _ _ c.requires in
-    omega arith
-
-pub overflow_sub-k-then-k-start-lt-PAIRS : goal.overflow_sub-k-then-k-start-lt-PAIRS
-overflow_sub-k-then-k-start-lt-PAIRS c = let h = few_lines _ _ _ _ _ _ c.requires in
     omega arith
 
 pub mark_lines-requires : goal.mark_lines-requires
@@ -47,14 +36,6 @@ returns-else-k-start-eq-PAIRS c = record {
   kept = λ _. kept_few _ _ _ _ _ _ c.requires c.if-k-start-lt-PAIRS.true c.if-k-start-eq-PAIRS.false;
 }
 
-pub mark_of-v-requires : goal.mark_of-v-requires
-unfolding most_lines
-mark_of-v-requires c = let h = few_lines _ _ _ _ _ _ c.requires in
-    omega arith
-
-pub is_covered-requires : goal.is_covered-requires
-is_covered-requires c = found _ _ _ _ _ _ c.requires c.args.k c.requires.lines.0 (omega arith) c.args.t.now refl
-
 pub at_line-requires-then-is_covered : goal.at_line-requires-then-is_covered
 at_line-requires-then-is_covered c = let h = few_lines _ _ _ _ _ _ c.requires in
     omega arith
@@ -67,9 +48,6 @@ returns-then-is_covered c = let v = c.at_line-then-is_covered.ensures.verdict in
           c.if-is_covered.true;
       kept = never_fine _ _ v;
     }
-
-pub mark_line-requires : goal.mark_line-requires
-mark_line-requires c = found _ _ _ _ _ _ c.requires c.args.k c.requires.lines.0 (omega arith) c.args.t.now refl
 
 pub returns : goal.returns
 returns c = let m = c.mark_of-v.ensures.value in

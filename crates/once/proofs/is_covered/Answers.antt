@@ -3,12 +3,6 @@ use native.Mathlib.Omega.{arith}
 use Rattle.once.proofs.Lines.{line_inside, line_seen}
 use Rattle.once.proofs.is_covered.Goals as goal
 
-pub first_row-e-requires : goal.first_row-e-requires
-first_row-e-requires c = let p = c.requires in ((p.receivers, p.rows), (p.relations, p.line))
-
-pub receivers_of-requires : goal.receivers_of-requires
-receivers_of-requires c = c.requires.line.0
-
 pub overflow_add-e : goal.overflow_add-e
 overflow_add-e c = let h = line_inside _ _ _ _ _ c.requires _ _ c.first_row-e.ensures.value c.receivers_of.ensures.value in
     omega arith

@@ -11,9 +11,6 @@ returns-else-eq c = record {
       c.if-eq.false;
 }
 
-pub reach_of-requires-then-eq : goal.reach_of-requires-then-eq
-reach_of-requires-then-eq c = c.requires.1.1.0
-
 pub returns-then-eq : goal.returns-then-eq
 returns-then-eq c = record {
   value = let p = c.requires in
