@@ -1,10 +1,15 @@
 -- 20, by what the code finds of a question.
-use Prim.Native.Nat.{ℕ, ◌≤◌}
-use mathlib.Core.Path.{◌≡◌, sym, ◌∙◌}
+use Prim.Native.Nat.{ℕ, zero, suc, ◌≤◌}
+use native.Mathlib.Numerals.{add-one}
+use native.Mathlib.Omega.{arith}
+use mathlib.Core.Path.{◌≡◌, refl, sym, ap, ◌∙◌}
 use mathlib.Core.Bool.{Bool, true, false, ◌&&◌, not, and_assoc}
 use mathlib.Core.List.{List}
 use lib.Dec.{leb, eqb}
-use lib.ListN.{length, get_or}
+use lib.ListN.{length, get_or, take}
+use lib.Seq.{take-length}
+use Rattle.std.specs.List.{list_all}
+use Rattle.std.proofs.lemmas.List.Folds.{list_all_more}
 use Rattle.rules.specs.Places.{every}
 use Rattle.rules.specs.Text.{col}
 use Rattle.rules.specs.Kinds.{fits}
@@ -21,6 +26,18 @@ and_then false b v e f = clash e
 pub and_else : (a b v : Bool) → a ≡ false → v ≡ a → v ≡ (a && b)
 and_else true b v e f = clash (sym e)
 and_else false b v e f = f
+
+-- bytes that are printable, one by one
+printed_to : (t : List ℕ) (n : ℕ) → n ≤ length t
+    → list_all (λ b. leb 32 b && leb b 126) (take n t) ≡ every n (λ i. printable (get_or t i 0))
+unfolding every printable
+printed_to t zero h = refl
+printed_to t (suc n) h =
+    rw add-one at (list_all_more (λ b. leb 32 b && leb b 126) t n 0 (omega arith))
+    ∙ ap (λ (b : Bool). b && printable (get_or t n 0)) (printed_to t n (omega arith))
+
+pub printed_by_test : (t : List ℕ) → list_all (λ b. leb 32 b && leb b 126) t ≡ every (length t) (λ i. printable (get_or t i 0))
+printed_by_test t = ap (list_all (λ b. leb 32 b && leb b 126)) (sym (take-length t)) ∙ printed_to t (length t) (omega arith)
 
 -- a tape and a record
 pub record_by : (t : List ℕ) (n : ℕ) (u v : Bool) → u ≡ (eqb (length t) 6 && every (length t) (λ i. printable (get_or t i 0)))

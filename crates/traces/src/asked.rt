@@ -1,8 +1,7 @@
 // 20: whether a question is in range.
-ghost use Rattle.std.specs.Prelude.{◌≡◌, ◌&&◌, ℕ, length, get_or};
-ghost use Rattle.rules.specs.Places.{every};
+ghost use Rattle.std.specs.Prelude.{◌≡◌, ◌&&◌, ℕ, leb};
+ghost use Rattle.std.specs.List.{list_all};
 ghost use Rattle.rules.specs.Layout.{sps93};
-ghost use Rattle.rules.specs.Disc.{printable};
 ghost use Rattle.rules.specs.Questions.{record_asked, channel_asked, line_asked, component_asked};
 
 // The text of 1993 has records and channels up to these.
@@ -10,23 +9,11 @@ const MOST_RECORD: u64 = 9999;
 
 const MOST_CHANNEL: u64 = 9999;
 
-#[tactic(auto, unfolding(rules::specs::Disc::printable))]
-fn is_printable(b: u8) -> bool
-    ensures value { result ≡ printable b }
-{
-    32 <= b && b <= 126
-}
-
 // Bytes 32 to 126.
 fn all_printable(tape: &[u8]) -> bool
-    ensures value { result ≡ every (length tape.now) (λ i. printable (get_or tape.now i 0)) }
+    ensures value { result ≡ list_all (λ b. leb 32 b && leb b 126) tape.now }
 {
-    for i in 0..tape.len() {
-        if !is_printable(tape[i]) {
-            return false;
-        }
-    }
-    true
+    tape.iter().all(|b| 32 <= *b && *b <= 126)
 }
 
 // A tape of six such bytes, the first no blank, and a record to 9,999.

@@ -4,7 +4,7 @@ use lib.Dec.{eqb, leb}
 use borrow.Author.Tests.{eq-eqb, ne_eqb}
 use Rattle.rules.specs.Disc.{printable}
 use Rattle.rules.specs.Places.{every}
-use Rattle.traces.proofs.Ranges.{and_then, and_else, record_by}
+use Rattle.traces.proofs.Ranges.{and_then, and_else, printed_by_test, record_by}
 use Rattle.traces.proofs.asked.record.Goals.{then-tape-eq6, else-tape-eq6, then-all_printable, else-all_printable}
 use Rattle.traces.proofs.asked.record.Goals as goal
 
@@ -14,7 +14,7 @@ returns-then-tape-ne32 c = record {
       let n = c.args.number in
       let two : c.if-tape-eq6.value ≡ (eqb (length t) 6 && every (length t) (λ i. printable (get_or t i 0))) =
       elim c.if-tape-eq6.branch [
-        | then-tape-eq6 w ↦ and_then _ _ _ (eq-eqb _ 6 w.if-tape-eq6.true) (w.value-is ∙ w.all_printable.ensures.value)
+        | then-tape-eq6 w ↦ and_then _ _ _ (eq-eqb _ 6 w.if-tape-eq6.true) (w.value-is ∙ w.all_printable.ensures.value ∙ printed_by_test t)
         | else-tape-eq6 w ↦ and_else _ _ _ (ne_eqb _ 6 w.if-tape-eq6.false) w.value-is
       ] in
       let three : c.if-all_printable.value ≡ (c.if-tape-eq6.value && not (eqb (get_or t 0 0) 32)) =
@@ -31,7 +31,7 @@ returns-else-tape-ne32 c = record {
       let n = c.args.number in
       let two : c.if-tape-eq6.value ≡ (eqb (length t) 6 && every (length t) (λ i. printable (get_or t i 0))) =
       elim c.if-tape-eq6.branch [
-        | then-tape-eq6 w ↦ and_then _ _ _ (eq-eqb _ 6 w.if-tape-eq6.true) (w.value-is ∙ w.all_printable.ensures.value)
+        | then-tape-eq6 w ↦ and_then _ _ _ (eq-eqb _ 6 w.if-tape-eq6.true) (w.value-is ∙ w.all_printable.ensures.value ∙ printed_by_test t)
         | else-tape-eq6 w ↦ and_else _ _ _ (ne_eqb _ 6 w.if-tape-eq6.false) w.value-is
       ] in
       let three : c.if-all_printable.value ≡ (c.if-tape-eq6.value && not (eqb (get_or t 0 0) 32)) =
