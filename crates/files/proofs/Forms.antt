@@ -1,40 +1,33 @@
 -- The form of each of three disc files, then the cross-check, is the cross-check alone.
 --   first_refused, then_refused, last_refused = a file that is not well formed
---   all_formed                                = three that are
-use Prim.Native.Nat.{ℕ}
-use mathlib.Core.Path.{◌≡◌, sym, ap, ◌∙◌}
-use mathlib.Core.List.{List}
-use Rattle.rules.specs.Plan.{№}
+--   as_crossed                                = three that are
+use Rattle.std.proofs.Common.{◌≡◌, ℕ, List, sym, ap, ◌∙◌}
+use Rattle.rules.specs.Plan.{Refusal}
 use Rattle.rules.specs.Disc.{file}
-use Rattle.rules.specs.Check.{refusal, cross}
+use Rattle.rules.specs.Check.{Answer, refusal, formed, cross}
 use Rattle.rules.specs.OneFile.{file_form}
 use Rattle.rules.proofs.OneFile.{first_part, second_part, third_part}
 use Rattle.lines.specs.Reading.{on_disc, sheet_of}
 use Rattle.lines.specs.declared.Reading.{Reading}
-use Rattle.lines.specs.declared.Verdict.{Verdict}
-use Rattle.lines.specs.declared.Verdict.TheVariants.{Fine, Refused}
-use Rattle.form.specs.Paper.{answered, form_on}
+use Rattle.form.specs.Paper.{form_on}
 use Rattle.sets.specs.Paper.{cross_on}
 
-module _ (how : Reading) (d : how ≡ on_disc) where
+module _ (how : Reading) (d : how ≡ on_disc) (r s x : List ℕ) where
   -- what the form check of a file has told
-  told : (b : ℕ) (f : List ℕ) (u v : Verdict) → answered u ≡ form_on how b f → u ≡ v → file_form b (file f) ≡ answered v
+  said : (b : ℕ) (f : List ℕ) (a : Answer) → a ≡ form_on how b f → file_form b (file f) ≡ a
   unfolding sheet_of
-  told b f u v e y = sym (ap (λ (h : Reading). form_on h b f) d) ∙ sym e ∙ ap answered y
+  said b f a e = sym (ap (λ (h : Reading). form_on h b f) d) ∙ sym e
 
-  module _ (r s x : List ℕ) (n i l c : ℕ) where
-    pub first_refused : (u : Verdict) → answered u ≡ form_on how 82 r → u ≡ Refused n i l c → refusal (№ n i l c) ≡ cross (file r) (file s) (file x)
-    first_refused u e y = sym (first_part (file r) (file s) (file x) _ (told 82 r u _ e y))
+  pub first_refused : (w : Refusal) → refusal w ≡ form_on how 82 r → refusal w ≡ cross (file r) (file s) (file x)
+  first_refused w e = sym (first_part (file r) (file s) (file x) w (said 82 r _ e))
 
-    module _ (u : Verdict) (eu : answered u ≡ form_on how 82 r) (yu : u ≡ Fine) where
-      pub then_refused : (v : Verdict) → answered v ≡ form_on how 83 s → v ≡ Refused n i l c → refusal (№ n i l c) ≡ cross (file r) (file s) (file x)
-      then_refused v e y = sym (second_part (file r) (file s) (file x) (told 82 r u _ eu yu) _ (told 83 s v _ e y))
+  module _ (g : formed ≡ form_on how 82 r) where
+    pub then_refused : (w : Refusal) → refusal w ≡ form_on how 83 s → refusal w ≡ cross (file r) (file s) (file x)
+    then_refused w e = sym (second_part (file r) (file s) (file x) (said 82 r _ g) w (said 83 s _ e))
 
-      pub last_refused : (v : Verdict) → answered v ≡ form_on how 83 s → v ≡ Fine
-          → (w : Verdict) → answered w ≡ form_on how 88 x → w ≡ Refused n i l c → refusal (№ n i l c) ≡ cross (file r) (file s) (file x)
-      last_refused v ev yv w e y =
-          sym (third_part (file r) (file s) (file x) (told 82 r u _ eu yu) (told 83 s v _ ev yv) _ (told 88 x w _ e y))
+    pub last_refused : formed ≡ form_on how 83 s → (w : Refusal) → refusal w ≡ form_on how 88 x → refusal w ≡ cross (file r) (file s) (file x)
+    last_refused h w e = sym (third_part (file r) (file s) (file x) (said 82 r _ g) (said 83 s _ h) w (said 88 x _ e))
 
-  pub as_crossed : (r s x : List ℕ) → cross_on how r s x ≡ cross (file r) (file s) (file x)
+  pub as_crossed : cross_on how r s x ≡ cross (file r) (file s) (file x)
   unfolding sheet_of
-  as_crossed r s x = ap (λ (h : Reading). cross_on h r s x) d
+  as_crossed = ap (λ (h : Reading). cross_on h r s x) d

@@ -1,8 +1,6 @@
 pub mod Answers
 pub mod Kept
 pub mod Known
-pub mod Paths
-pub mod Says
 pub mod Forms
 pub mod Faults
 pub mod One

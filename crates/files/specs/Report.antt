@@ -4,23 +4,22 @@
 --   f or_else g           = f, or g where f is none
 --   report i r j s k x   = the line of three files, of which i, j and k were found, with their bytes in r, s and x
 --   told t r s x         = the line of three files of which t says what was found
-use Rattle.std.specs.Prelude.{ℕ, List, [], ◌∷◌, take}
+use Rattle.std.specs.Prelude.{ℕ, List, [], ◌∷◌, Ok, Err, take}
 use Rattle.rules.specs.Plan.{file_r, file_s, file_x}
 use Rattle.rules.specs.Disc.{file}
 use Rattle.rules.specs.Check.{cross}
 use Rattle.words.specs.Words.{line, no_file, too_long}
-use Rattle.files.specs.declared.input.Input.{Input}
-use Rattle.files.specs.declared.input.Input.TheVariants.{Missing, Longer, Bytes}
+use Rattle.files.specs.declared.input.Unusable.TheVariants.{Missing, Longer}
 use Rattle.files.specs.declared.Said.{Said}
-use Rattle.files.specs.Reads.{size_of}
+use Rattle.files.specs.Reads.{Input, size_of}
 
 abbrev pub part : Input → List ℕ → List ℕ
 part i b = take (size_of i) b
 
 unfoldable pub fault : ℕ → Input → List ℕ
-fault n Missing = no_file n
-fault n Longer = too_long n
-fault n (Bytes m) = []
+fault n (Err Missing) = no_file n
+fault n (Err Longer) = too_long n
+fault n (Ok m) = []
 
 infixr 40 ◌or_else◌
 unfoldable pub ◌or_else◌ : List ℕ → List ℕ → List ℕ

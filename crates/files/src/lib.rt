@@ -2,35 +2,44 @@
 // The files of a set: each is read into a lent buffer, and one line says what they are. Of what the system reads or prints no
 // contract can speak; so `input` decides on what the calls of read answer, `report` says all of the line on slices, `tell` only
 // reads and hands over to it, and `print` only prints.
-ghost use Rattle.std.specs.Prelude.{◌≡◌, ◌≤◌, length, take};
+ghost use Rattle.std.specs.Prelude.{◌≡◌, ◌≤◌, Err, length, take};
 ghost use Rattle.rules.specs.Disc.{file};
 ghost use Rattle.rules.specs.Check.{cross as cross_of};
 ghost use Rattle.sets.specs.Paper.{paper};
 ghost use Rattle.texts.specs.Buffer.{over};
 ghost use Rattle.files.specs.Reads.{Found};
-ghost use Rattle.files.specs.Report.{part as part_of, fault as fault_of, report as report_of, told};
+ghost use Rattle.files.specs.Report.{fault as fault_of, report as report_of, told};
 
-use lines::Verdict;
-use sets::Answer;
+use lines::Refusal;
+use sets::Counts;
+use std::cmp::min;
 use std::rt::Files;
 
 mod input;
 
-pub use input::{Input, Loaded, load, size};
+pub use input::{Input, Loaded, Unusable, load};
+
+// The paths of three files.
+#[derive(Clone, Copy, Debug, PartialEq, Eq)]
+pub struct Paths<'a> {
+    pub r: &'a [u8],
+    pub s: &'a [u8],
+    pub x: &'a [u8],
+}
 
 // What was said of three files: the length of their line, and what was found of each.
-#[derive(Clone, Copy)]
-pub struct Said {
+#[derive(Clone, Copy, Debug, PartialEq, Eq)]
+pub struct Said<'a> {
     pub size: usize,
-    pub r: Loaded,
-    pub s: Loaded,
-    pub x: Loaded,
+    pub r: Loaded<'a>,
+    pub s: Loaded<'a>,
+    pub x: Loaded<'a>,
 }
 
 // What was said of three files, and whether all of it was written.
-#[derive(Clone, Copy)]
-pub struct Printed {
-    pub said: Said,
+#[derive(Clone, Copy, Debug, PartialEq, Eq)]
+pub struct Printed<'a> {
+    pub said: Said<'a>,
     pub whole: bool,
 }
 
@@ -38,53 +47,30 @@ pub struct Printed {
 fn first(n: usize, b: &[u8]) -> &[u8]
     ensures value { result.now ≡ take n b.now }
 {
-    if b.len() < n {
-        return b;
-    }
-    &b[..n]
+    &b[..min(n, b.len())]
 }
 
-// The bytes of a file, in its buffer.
-fn part(i: Input, b: &[u8]) -> &[u8]
-    ensures value { result.now ≡ part_of i b.now }
-{
-    match i {
-        Input::Missing => first(0, b),
-        Input::Longer => first(0, b),
-        Input::Bytes(n) => first(n, b),
-    }
-}
-
-// Says that file n cannot be used, where it cannot.
-fn fault(n: u8, i: Input, out: &mut [u8]) -> usize
-    ensures value { result ≡ length (fault_of n i) }
-    ensures written { out.new ≡ over (fault_of n i) out.old }
+// Says why file n cannot be used.
+#[tactic(auto, unfolding(crate::specs::Report::fault, words::specs::Words::no_file, words::specs::Words::too_long, rules::specs::Text::bytes))]
+fn fault(n: u8, why: Unusable, out: &mut [u8]) -> usize
+    ensures value { result ≡ length (fault_of n (Err why)) }
+    ensures written { out.new ≡ over (fault_of n (Err why)) out.old }
     ensures small { result ≤ 114 }
 {
-    match i {
-        Input::Missing => words::no_file(n, out),
-        Input::Longer => words::too_long(n, out),
-        Input::Bytes(_) => 0,
+    match why {
+        Unusable::Missing => words::no_file(n, out),
+        Unusable::Longer => words::too_long(n, out),
     }
 }
 
 // The verdict on three files: the form of each, then the cross-check.
-fn judged(r: &[u8], s: &[u8], x: &[u8]) -> Answer
+fn judged(r: &[u8], s: &[u8], x: &[u8]) -> Result<Counts, Refusal>
     ensures answer { paper result ≡ cross_of (file r.now) (file s.now) (file x.now) }
 {
     let how = lines::disc();
-    let u = form::form(how, b'R' as u64, r);
-    if let Verdict::Refused(n, i, l, c) = u {
-        return Answer::Refused(n, i, l, c);
-    }
-    let v = form::form(how, b'S' as u64, s);
-    if let Verdict::Refused(n, i, l, c) = v {
-        return Answer::Refused(n, i, l, c);
-    }
-    let w = form::form(how, b'X' as u64, x);
-    if let Verdict::Refused(n, i, l, c) = w {
-        return Answer::Refused(n, i, l, c);
-    }
+    form::form(how, b'R' as u64, r)?;
+    form::form(how, b'S' as u64, s)?;
+    form::form(how, b'X' as u64, x)?;
     sets::cross(how, r, s, x)
 }
 
@@ -94,43 +80,34 @@ pub fn report(i: Input, r: &[u8], j: Input, s: &[u8], k: Input, x: &[u8], out: &
     ensures written { out.new ≡ over (report_of i r.now j s.now k x.now) out.old }
     ensures small { result ≤ 114 }
 {
-    let a = fault(1, i, out);
-    if a != 0 {
-        return a;
+    match (i, j, k) {
+        (Err(why), _, _) => fault(1, why, out),
+        (Ok(_), Err(why), _) => fault(2, why, out),
+        (Ok(_), Ok(_), Err(why)) => fault(3, why, out),
+        (Ok(a), Ok(b), Ok(c)) => words::verdict(judged(first(a, r), first(b, s), first(c, x)), out),
     }
-    let b = fault(2, j, out);
-    if b != 0 {
-        return b;
-    }
-    let c = fault(3, k, out);
-    if c != 0 {
-        return c;
-    }
-    words::verdict(judged(part(i, r), part(j, s), part(k, x)), out)
 }
 
 // Reads the files at three paths into lent buffers and says what they are.
-pub fn tell<R: Files>(
+pub fn tell<'a, R: Files>(
     rt: &R,
-    r: &[u8],
-    s: &[u8],
-    x: &[u8],
-    a: &mut [u8],
-    b: &mut [u8],
-    c: &mut [u8],
+    paths: Paths<'a>,
+    r: &mut [u8],
+    s: &mut [u8],
+    x: &mut [u8],
     out: &mut [u8],
-) -> Said
-    ensures r_found { Found r.now result.r a.old a.new }
-    ensures s_found { Found s.now result.s b.old b.new }
-    ensures x_found { Found x.now result.x c.old c.new }
-    ensures value { result.size ≡ length (told result a.new b.new c.new) }
-    ensures written { out.new ≡ over (told result a.new b.new c.new) out.old }
+) -> Said<'a>
+    ensures r_found { Found paths.entry.r.now result.r r.old r.new }
+    ensures s_found { Found paths.entry.s.now result.s s.old s.new }
+    ensures x_found { Found paths.entry.x.now result.x x.old x.new }
+    ensures value { result.size ≡ length (told result r.new s.new x.new) }
+    ensures written { out.new ≡ over (told result r.new s.new x.new) out.old }
     ensures small { result.size ≤ 114 }
 {
-    let i = load(rt, r, a);
-    let j = load(rt, s, b);
-    let k = load(rt, x, c);
-    let size = report(i.input(), a, j.input(), b, k.input(), c, out);
+    let i = load(rt, paths.r, r);
+    let j = load(rt, paths.s, s);
+    let k = load(rt, paths.x, x);
+    let size = report(i.input(), r, j.input(), s, k.input(), x, out);
     Said {
         size,
         r: i,
@@ -140,22 +117,19 @@ pub fn tell<R: Files>(
 }
 
 // Prints the line of the files at three paths, read into lent buffers.
-pub fn print<R: Files + Print>(
+pub fn print<'a, R: Files + Print>(
     rt: &R,
-    r: &[u8],
-    s: &[u8],
-    x: &[u8],
-    a: &mut [u8],
-    b: &mut [u8],
-    c: &mut [u8],
-) -> Printed
-    ensures r_found { Found r.now result.said.r a.old a.new }
-    ensures s_found { Found s.now result.said.s b.old b.new }
-    ensures x_found { Found x.now result.said.x c.old c.new }
+    paths: Paths<'a>,
+    r: &mut [u8],
+    s: &mut [u8],
+    x: &mut [u8],
+) -> Printed<'a>
+    ensures r_found { Found paths.entry.r.now result.said.r r.old r.new }
+    ensures s_found { Found paths.entry.s.now result.said.s s.old s.new }
+    ensures x_found { Found paths.entry.x.now result.said.x x.old x.new }
 {
     let mut line = [0u8; 120];
-    let said = tell(rt, r, s, x, a, b, c, &mut line);
-    let n = said.size;
-    let whole = rt.write_all(&line[..n]).is_ok();
+    let said = tell(rt, paths, r, s, x, &mut line);
+    let whole = rt.write_all(&line[..said.size]).is_ok();
     Printed { said, whole }
 }

@@ -1,22 +1,23 @@
 -- What `files::judged` leaves to show.
-use mathlib.Core.Path.{◌∙◌}
+use Rattle.std.proofs.Common.{◌∙◌}
+use Rattle.std.proofs.lemmas.Result.{err_from_is_err_and}
 use Rattle.files.proofs.Forms.{first_refused, then_refused, last_refused, as_crossed}
 use Rattle.files.proofs.judged.Goals as goal
 
-pub returns-in-Refused : goal.returns-in-Refused
-returns-in-Refused c = record { answer = first_refused _ c.disc-how.ensures.value _ _ _ _ _ _ _ c.form-u.result c.form-u.ensures.answer c.in-Refused.is }
+pub returns-in_err-form : goal.returns-in_err-form
+returns-in_err-form c = let p = err_from_is_err_and c.from_residual.result c.from_residual.ensures.1 in
+    record { answer = rw (p.1, p.2) (first_refused _ c.disc-how.ensures.value _ _ _ _ c.in_err-form.ensures.answer) }
 
-pub returns-in-Refused-v : goal.returns-in-Refused-v
-returns-in-Refused-v c = record {
-  answer = then_refused _ c.disc-how.ensures.value _ _ _ _ _ _ _ c.form-u.result c.form-u.ensures.answer c.in_default.is c.form-v.result
-      c.form-v.ensures.answer c.in-Refused-v.is;
-}
+pub returns-in_err-form-2 : goal.returns-in_err-form-2
+returns-in_err-form-2 c = let p = err_from_is_err_and c.from_residual-in_err-form-2.result c.from_residual-in_err-form-2.ensures.1 in
+    record { answer = rw (p.1, p.2) (then_refused _ c.disc-how.ensures.value _ _ _ c.in_ok-form.ensures.answer _ c.in_err-form-2.ensures.answer) }
 
-pub returns-in-Refused-w : goal.returns-in-Refused-w
-returns-in-Refused-w c = record {
-  answer = last_refused _ c.disc-how.ensures.value _ _ _ _ _ _ _ c.form-u.result c.form-u.ensures.answer c.in_default.is c.form-v.result
-      c.form-v.ensures.answer c.in_default-v.is c.form-w.result c.form-w.ensures.answer c.in-Refused-w.is;
-}
+pub returns-in_err-form-3 : goal.returns-in_err-form-3
+returns-in_err-form-3 c = let p = err_from_is_err_and c.from_residual-in_err-form-3.result c.from_residual-in_err-form-3.ensures.1 in
+    record {
+      answer = rw (p.1, p.2) (last_refused _ c.disc-how.ensures.value _ _ _ c.in_ok-form.ensures.answer c.in_ok-form-2.ensures.answer _
+          c.in_err-form-3.ensures.answer);
+    }
 
 pub returns : goal.returns
 returns c = record { answer = c.cross.ensures.answer ∙ as_crossed _ c.disc-how.ensures.value _ _ _ }
