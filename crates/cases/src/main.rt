@@ -5,9 +5,9 @@
 // written ends the program with that error.
 ghost use Rattle.std.specs.Prelude.{◌≡◌, ◌≤◌, length};
 
-use files::Input;
-use lines::{Choice, Reading, Verdict};
-use sets::Answer;
+use files::Paths;
+use lines::{Reading, Refusal};
+use sets::Counts;
 use std::io;
 use std::rt::Files;
 
@@ -23,14 +23,10 @@ fn end(names: &[u8], n: usize) -> usize
     requires { n ≤ length names.now }
     ensures within { (n ≤ result) × (result ≤ length names.now) }
 {
-    let mut e = n;
-    while e < names.len() {
-        if names[e] == b'\n' {
-            return e;
-        }
-        e += 1;
-    }
-    e
+    names[n..]
+        .iter()
+        .position(|b| *b == b'\n')
+        .map_or(names.len(), |k| n + k)
 }
 
 // The path of a file in a folder, at the start of out; empty where the folder's name is too long.
@@ -48,7 +44,7 @@ fn path(folder: &[u8], file: &[u8; 8], out: &mut [u8]) -> usize
 }
 
 // The line of an answer.
-fn print(rt: &impl Print, a: Answer) -> io::Result<()> {
+fn print(rt: &impl Print, a: Result<Counts, Refusal>) -> io::Result<()> {
     let mut line = [0u8; 120];
     let n = words::verdict(a, &mut line);
     rt.write_all(&line[..n])
@@ -56,9 +52,9 @@ fn print(rt: &impl Print, a: Answer) -> io::Result<()> {
 
 // The line of a file that is not well formed by itself.
 fn alone(rt: &impl Print, how: Reading, kind: u64, f: &[u8]) -> io::Result<()> {
-    if let Verdict::Refused(n, i, l, c) = form::form(how, kind, f) {
+    if let Err(e) = form::form(how, kind, f) {
         rt.write_all(b"  alone ")?;
-        print(rt, Answer::Refused(n, i, l, c))?;
+        print(rt, Err(e))?;
     }
     Ok(())
 }
@@ -66,26 +62,24 @@ fn alone(rt: &impl Print, how: Reading, kind: u64, f: &[u8]) -> io::Result<()> {
 // The lines of three files.
 fn told(rt: &impl Print, how: Reading, r: &[u8], s: &[u8], x: &[u8]) -> io::Result<()> {
     print(rt, sets::cross(how, r, s, x))?;
-    alone(rt, how, b'R' as u64, r)?;
-    alone(rt, how, b'S' as u64, s)?;
-    alone(rt, how, b'X' as u64, x)
+    alone(rt, how, u64::from(b'R'), r)?;
+    alone(rt, how, u64::from(b'S'), s)?;
+    alone(rt, how, u64::from(b'X'), x)
 }
 
 // The line of the files at three paths, read in one way into lent buffers.
 fn said<R: Files + Print>(
     rt: &R,
     how: Reading,
-    r: &[u8],
-    s: &[u8],
-    x: &[u8],
-    a: &mut [u8],
-    b: &mut [u8],
-    c: &mut [u8],
+    paths: Paths<'_>,
+    r: &mut [u8],
+    s: &mut [u8],
+    x: &mut [u8],
 ) -> io::Result<()> {
-    let i = files::size(files::load(rt, r, a).input());
-    let j = files::size(files::load(rt, s, b).input());
-    let k = files::size(files::load(rt, x, c).input());
-    told(rt, how, &a[..i], &b[..j], &c[..k])
+    let i = files::load(rt, paths.r, r).input().unwrap_or(0);
+    let j = files::load(rt, paths.s, s).input().unwrap_or(0);
+    let k = files::load(rt, paths.x, x).input().unwrap_or(0);
+    told(rt, how, &r[..i], &s[..j], &x[..k])
 }
 
 // The line of one folder.
@@ -101,16 +95,12 @@ fn one<R: Files + Print>(rt: &R, how: Reading, folder: &[u8]) -> io::Result<()> 
     let mut large = [0u8; LARGE];
     let mut second = [0u8; BUFFER];
     let mut third = [0u8; BUFFER];
-    said(
-        rt,
-        how,
-        &r[..a],
-        &s[..b],
-        &x[..c],
-        &mut large,
-        &mut second,
-        &mut third,
-    )
+    let paths = Paths {
+        r: &r[..a],
+        s: &s[..b],
+        x: &x[..c],
+    };
+    said(rt, how, paths, &mut large, &mut second, &mut third)
 }
 
 // The lines of all folders of a list.
@@ -127,7 +117,7 @@ fn each<R: Files + Print>(rt: &R, how: Reading, names: &[u8]) -> io::Result<()> 
 // The lines of the folders that a file lists.
 fn listed<R: Files + Print>(rt: &R, how: Reading, list: &[u8]) -> io::Result<()> {
     let mut names = [0u8; LIST];
-    if let Input::Bytes(n) = files::load(rt, list, &mut names).input() {
+    if let Ok(n) = files::load(rt, list, &mut names).input() {
         each(rt, how, &names[..n])?;
     }
     Ok(())
@@ -135,7 +125,7 @@ fn listed<R: Files + Print>(rt: &R, how: Reading, list: &[u8]) -> io::Result<()>
 
 fn main(rt: HostRuntime) -> io::Result<()> {
     listed(&rt, lines::disc(), b"names")?;
-    if let Choice::On(how) = lines::chosen(2) {
+    if let Some(how) = lines::chosen(2) {
         listed(&rt, how, b"tapes")?;
     }
     Ok(())
