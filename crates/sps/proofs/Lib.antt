@@ -1,5 +1,4 @@
 pub mod Placed
-pub mod Got
 pub mod Counts
 pub mod One
 pub mod Told

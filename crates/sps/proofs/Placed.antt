@@ -1,18 +1,20 @@
 -- Numbers in the places of a byte slice, and the steps that put them there.
 --   placed_whole, placed_short  = a slice that has the first place whole, and one that has not
---   filling at end w d          = d with what is left of a number, w, from byte at up to an end
---   begun, byte_more, bytes_put = no byte is put yet; one more; all of them
+--   one_put                     = one number is put
 --   from_all                    = no place is put yet
 --   place_more, places_put      = one more; all of them
-use Prim.Native.Nat.{ℕ, zero, suc, ◌+◌, ◌-◌, ◌*◌, ◌/◌, ◌%◌, ◌≤◌, ◌<◌}
+use Prim.Native.Nat.{ℕ, zero, suc, ◌+◌, ◌-◌, ◌*◌, ◌/◌, ◌%◌, ◌^◌, ◌≤◌, ◌<◌}
+use native.Mathlib.Nat.{pow-suc}
 use native.Mathlib.Numerals.{add-one}
 use native.Mathlib.Omega.{arith}
-use mathlib.Core.Path.{◌≡◌, refl, ap, ◌∙◌}
+use mathlib.Core.Path.{◌≡◌, refl, sym, ap, ◌∙◌}
 use mathlib.Core.Bool.{Bool, true, false}
 use mathlib.Core.List.{List, [], ◌∷◌, ◌++◌, append_assoc}
 use lib.Dec.{leb}
 use lib.ListN.{length, get_or, take, drop, set, length-append, length-drop, take-append-drop}
 use lib.Seq.{take-suc-set, drop-set-lt, drop-cons, drop-drop, drop-length, append_snoc, take_at, drop_at, length-take-le}
+use Rattle.std.specs.Int.{w64, to_le_bytes, bytes_low_first}
+use Rattle.std.proofs.Math.Nat.{div-div-eq-div-mul}
 use borrow.Author.Tests.{le-leb, lt-leb, leb-true, leb-false}
 use Rattle.rules.specs.Places.{pick}
 use Rattle.rules.specs.Hosts.{low_bytes}
@@ -52,23 +54,17 @@ placed_length (v ∷ vs) o =
     ∙ simp (length-append, low_length, placed_length vs (drop 8 o), length-drop) (omega arith))
     (λ h. ap length (placed_short (v ∷ vs) o h))
 
--- a number, byte by byte
-unfoldable pub filling : ℕ → ℕ → ℕ → List ℕ → List ℕ
-filling at end w d = take at d ++ (low_bytes (end - at) w ++ drop end d)
+-- the bytes of a number are its low bytes
+bytes_from : (k i v : ℕ) → bytes_low_first (suc i) k v ≡ low_bytes k (v / 256 ^ suc i)
+unfolding low_bytes
+bytes_from zero i v = refl
+bytes_from (suc k) i v =
+    let e : v / 256 ^ suc i / 256 ≡ v / 256 ^ suc (suc i) = div-div-eq-div-mul v (256 ^ suc i) 256 ∙ ap (λ (m : ℕ). v / m) (sym (pow-suc 256 (suc i))) in
+    ap (λ (l : List ℕ). (v / 256 ^ suc i % 256) ∷ l) (bytes_from k (suc i) v ∙ ap (low_bytes k) (sym e))
 
-pub byte_more : (at end w : ℕ) (d o : List ℕ) → at < end → end ≤ length d → filling at end w d ≡ o
-    → filling (at + 1) end (w / 256) (set d at (w % 256)) ≡ o
-unfolding filling low_bytes
-byte_more at end w d o h l e =
-    let n : end - at ≡ suc (end - suc at) = omega arith in
-    let f : at < length d = omega arith in
-    rw (add-one, take-suc-set d at (w % 256) f, drop-set-lt end d at (w % 256) h, append_snoc, ← e, n)
-
-pub bytes_put : (at end w : ℕ) (d o : List ℕ) → at ≡ end → filling at end w d ≡ o → d ≡ o
-unfolding filling low_bytes
-bytes_put at end w d o h e =
-    let n : end - end ≡ 0 = omega arith in
-    rw (h, n, take-append-drop) at e
+eight_bytes : (v : ℕ) → to_le_bytes w64 v ≡ low_bytes 8 v
+unfolding low_bytes
+eight_bytes v = ap (λ (l : List ℕ). (v % 256) ∷ l) (bytes_from 7 0 v)
 
 -- numbers from a place on
 pub from_short : (i : ℕ) (vs o : List ℕ) → length o < 8 * i + 8 → placed_from i vs o ≡ o
@@ -85,13 +81,14 @@ pub from_all : (vs o : List ℕ) → placed_from 0 vs o ≡ placed vs o
 unfolding placed_from
 from_all vs o = refl
 
--- one number
-pub begun : (i v : ℕ) (o : List ℕ) → 8 * i + 8 ≤ length o → filling (8 * i) (8 * i + 8) v o ≡ placed_from i (v ∷ []) o
-unfolding filling placed_from
-begun i v o h =
+-- one number, its bytes in their place
+pub one_put : (i v : ℕ) (o l : List ℕ) → 8 * i + 8 ≤ length o → l ≡ to_le_bytes w64 v
+    → take (8 * i) o ++ (l ++ drop (8 * i + 8 - 8 * i) (drop (8 * i) o)) ≡ placed_from i (v ∷ []) o
+unfolding placed_from
+one_put i v o l h e =
     let n : 8 * i + 8 - 8 * i ≡ 8 = omega arith in
-    let l : 8 ≤ length (drop (8 * i) o) = simp length-drop (omega arith) in
-    rw (n, placed_whole v [] (drop (8 * i) o) l, placed_none, drop-drop)
+    let w : 8 ≤ length (drop (8 * i) o) = simp length-drop (omega arith) in
+    rw (n, placed_whole v [] (drop (8 * i) o) w, placed_none, ← eight_bytes, e)
 
 -- one number more, and the others in the places after it
 from_whole : (i v : ℕ) (vs d : List ℕ) → 8 * i + 8 ≤ length d

@@ -8,16 +8,8 @@ ghost use Rattle.sps.specs.Values.{Sixteen};
 pub fn put(v: u64, i: usize, bytes: &mut [u8])
     ensures written { bytes.new ≡ placed_from i (v ∷ []) bytes.old }
 {
-    if bytes.len() / 8 <= i {
-        return;
-    }
-    let end = 8 * i + 8;
-    let mut rest = v;
-    let mut at = 8 * i;
-    while at < end {
-        bytes[at] = (rest % 256) as u8;
-        rest /= 256;
-        at += 1;
+    if i < bytes.len() / 8 {
+        bytes[8 * i..8 * i + 8].copy_from_slice(&v.to_le_bytes());
     }
 }
 
@@ -25,17 +17,9 @@ pub fn put(v: u64, i: usize, bytes: &mut [u8])
 pub fn put_all(numbers: &[u64], bytes: &mut [u8])
     ensures written { bytes.new ≡ placed numbers.now bytes.old }
 {
-    let mut i = 0;
-    while i < numbers.len() {
+    for i in 0..numbers.len() {
         put(numbers[i], i, bytes);
-        i += 1;
     }
-}
-
-fn wide(b: u8) -> u64
-    ensures value { result ≡ b }
-{
-    b as u64
 }
 
 // The number at place i.
@@ -43,14 +27,9 @@ fn get(i: usize, bytes: &[u8]) -> u64
     requires { 8 * i + 8 ≤ length bytes.now }
     ensures value { result ≡ read_at i bytes.now }
 {
-    let at = 8 * i;
-    let mut v: u64 = 0;
-    let mut j: usize = 8;
-    while 0 < j {
-        j -= 1;
-        v = v * 256 + wide(bytes[at + j]);
-    }
-    v
+    let mut place = [0; 8];
+    place.copy_from_slice(&bytes[8 * i..8 * i + 8]);
+    u64::from_le_bytes(place)
 }
 
 // The numbers at the sixteen places of a slice.
@@ -58,11 +37,9 @@ pub fn get_all(bytes: &[u8]) -> [u64; 16]
     requires { length bytes.now ≡ 128 }
     ensures value { Sixteen result bytes.now }
 {
-    let mut vs = [0; 16];
-    let mut i = 0;
-    while i < 16 {
-        vs[i] = get(i, bytes);
-        i += 1;
+    let mut numbers = [0; 16];
+    for i in 0..16 {
+        numbers[i] = get(i, bytes);
     }
-    vs
+    numbers
 }
