@@ -1,6 +1,5 @@
 -- Running counts, written row by row.
 --   Passed r o t j   = t holds the counts of the rows before j
---   small_keys       = the lines of a known file can be put in order
 --   lines_by_lem         = the rows of an order are lines, and t has a place for each where it has one for each line
 --   counted_on, few_counted, row_passed = one row more
 use Prim.Native.Nat.{ℕ, ◌+◌, ◌≤◌, ◌<◌}
@@ -14,21 +13,14 @@ use lib.ListN.{length, set}
 use lib.Seq.{get_or-set_same, get_or-set_other}
 use Rattle.rules.specs.Places.{pick, count}
 use Rattle.rules.specs.Sheet.{Sheet, most_lines}
-use Rattle.form.specs.Known.{Known}
-use Rattle.keys.specs.Keyed.{key_at}
-use Rattle.keys.specs.declared.By.{By}
 use Rattle.keys.specs.declared.Key.{Key}
-use Rattle.keys.proofs.Fit.{key_small}
-use Rattle.order.specs.Sorted.{nth, Small}
+use Rattle.order.specs.Sorted.{nth}
 use Rattle.order.specs.Listed.{Order}
 use Rattle.dead.specs.Dead.{killed_row, Lines}
 use Rattle.dead.proofs.Counting.{count_one, count_most}
 
 abbrev pub Passed : Sheet → List ℕ → List ℕ → ℕ → Type 0
 Passed r o t j = (i : ℕ) → i < j → nth t i ≡ count (i + 1) (killed_row r o)
-
-pub small_keys : (by : By) (i : ℕ) (f : Sheet) → Known i f → Small (key_at by f)
-small_keys by i f w = record { second = λ k. (key_small i f w k by).0; third = λ k. (key_small i f w k by).1 }
 
 pub lines_by_lem : (T : ℕ → Bool) (K : ℕ → Key) (r : Sheet) (o t : List ℕ) → Order T K o (length o) r.count
     → r.count ≤ most_lines → r.count ≤ length t → Lines r o t

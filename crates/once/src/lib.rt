@@ -112,6 +112,7 @@ fn mark_lines(how: Reading, r: &[u8], o: &[u32], x: &[u8], start: usize, k: usiz
 }
 
 // 19 of relation line k, whose record begins in line `start`; t keeps the marks of the rows.
+// Seven arguments, since a struct of them would be made for one call and taken apart in the next.
 pub fn covered_once(
     how: Reading,
     r: &[u8],

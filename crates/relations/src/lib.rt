@@ -10,6 +10,7 @@ ghost use Rattle.relations.specs.Walk.{reach_fits, all_relate, Waiting, Begun};
 use lines::{Reading, Verdict};
 
 // 18 and 19 of relation line k, whose record begins in line `start`; t keeps the marks of the rows.
+// Seven arguments, since a struct of them would be made for one call and taken apart in the next.
 fn reach_fits(
     how: Reading,
     r: &[u8],
