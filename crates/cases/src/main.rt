@@ -38,8 +38,8 @@ fn path(folder: &[u8], file: &[u8; 8], out: &mut [u8]) -> usize
     if 56 < n {
         return 0;
     }
-    words::place(folder, out);
-    words::place(file, &mut out[n..]);
+    texts::place(folder, out);
+    texts::place(file, &mut out[n..]);
     n + 8
 }
 

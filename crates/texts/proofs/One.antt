@@ -15,6 +15,8 @@ use Rattle.texts.specs.contracts.digits as digits
 use Rattle.texts.proofs.digits.Reads as digits_reads
 use Rattle.texts.specs.contracts.number as number
 use Rattle.texts.proofs.number.Reads as number_reads
+use Rattle.texts.specs.contracts.place as place
+use Rattle.texts.proofs.place.Reads as place_reads
 
 adds_ends : {a t b b' : List ℕ} {n m m' : ℕ} → Adds a n t b m → Adds a n t b' m' → m ≡ m'
 adds_ends p q = p.ends ∙ sym q.ends
@@ -40,3 +42,6 @@ digits_one κs a v v' w w' p p' = (adds_ends p p', both refl (both (adds_one p p
 
 pub number_one : One number.ended number_reads.Post
 number_one κs a v v' w w' p p' = (adds_ends p.0 p'.0, both refl (both (adds_one p.0 p'.0) refl))
+
+pub place_one : One place.ended place_reads.Post
+place_one κs a v v' w w' p p' = (refl, both refl (both (p ∙ sym p') refl))

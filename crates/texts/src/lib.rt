@@ -1,9 +1,9 @@
 #![tactic(auto)]
 // Text added to a buffer from a place on: a byte, one byte many times, a part, the digits of a number. Each answers where what it
 // added ends.
-ghost use Rattle.std.specs.Prelude.{◌∷◌, [], ◌+◌, ◌≤◌, ◌<◌, length, replicate};
+ghost use Rattle.std.specs.Prelude.{◌≡◌, ◌∷◌, [], ◌+◌, ◌≤◌, ◌<◌, length, replicate};
 ghost use Rattle.rules.specs.Figures.{decimal_of};
-ghost use Rattle.texts.specs.Buffer.{Adds};
+ghost use Rattle.texts.specs.Buffer.{Adds, over};
 
 // Adds a byte.
 pub fn byte(b: u8, out: &mut [u8], n: usize) -> usize
@@ -52,4 +52,14 @@ pub fn number(v: u64, out: &mut [u8], n: usize) -> usize
 {
     let m = byte(b' ', out, n);
     digits(v, out, m)
+}
+
+// Puts a part into the first places of out, where it has room.
+#[tactic(auto, unfolding(crate::specs::Buffer::over, rules::specs::Places::pick))]
+pub fn place(p: &[u8], out: &mut [u8])
+    ensures written { out.new ≡ over p.now out.old }
+{
+    if p.len() <= out.len() {
+        out[..p.len()].copy_from_slice(p);
+    }
 }

@@ -9,68 +9,60 @@ ghost use Rattle.rules.specs.Figures.{decimal_of};
 ghost use Rattle.words.specs.Words.{row as row_of, line as line_of, no_file, too_long};
 ghost use Rattle.texts.specs.Buffer.{over, Adds};
 
-use sets::Answer;
-
-// Puts a part into the first places of out, where it has room.
-pub fn place(p: &[u8], out: &mut [u8])
-    ensures written { out.new ≡ over p.now out.old }
-{
-    if out.len() < p.len() {
-        return;
-    }
-    texts::add(p, out, 0);
-}
+use lines::Refusal;
+use sets::Counts;
 
 // The line of an accepted set.
-fn accepted(r: u64, s: u64, x: u64, t: u64, d: u64, line: &mut [u8; 120]) -> usize
+fn accepted(c: Counts, line: &mut [u8; 120]) -> usize
     ensures added { Adds line.old 0
-        (row_of (bytes "ACCEPTED") (decimal_of r ∷ decimal_of s ∷ decimal_of x ∷ decimal_of t ∷ decimal_of d ∷ [])) line.new result }
+        (row_of (bytes "ACCEPTED")
+        (decimal_of c.receivers ∷ decimal_of c.shots ∷ decimal_of c.relations ∷ decimal_of c.traces ∷ decimal_of c.dead_traces ∷ []))
+        line.new result }
     ensures small { result ≤ 114 }
 {
     let a = texts::add(b"ACCEPTED", line, 0);
-    let b = texts::number(r, line, a);
-    let c = texts::number(s, line, b);
-    let e = texts::number(x, line, c);
-    let f = texts::number(t, line, e);
-    let g = texts::number(d, line, f);
+    let b = texts::number(c.receivers, line, a);
+    let d = texts::number(c.shots, line, b);
+    let e = texts::number(c.relations, line, d);
+    let f = texts::number(c.traces, line, e);
+    let g = texts::number(c.dead_traces, line, f);
     texts::byte(b'\n', line, g)
 }
 
 // The line of a refused set.
-fn refused(n: u8, f: u8, l: u32, c: u8, line: &mut [u8; 120]) -> usize
+fn refused(w: Refusal, line: &mut [u8; 120]) -> usize
     ensures added { Adds line.old 0
-        (row_of (bytes "REFUSED") (decimal_of n ∷ (letter_of f ∷ []) ∷ decimal_of l ∷ decimal_of c ∷ [])) line.new result }
+        (row_of (bytes "REFUSED") (decimal_of w.number ∷ (letter_of w.file ∷ []) ∷ decimal_of w.line ∷ decimal_of w.column ∷ [])) line.new result }
     ensures small { result ≤ 114 }
 {
     let a = texts::add(b"REFUSED", line, 0);
-    let b = texts::number(n as u64, line, a);
-    let file = [b' ', lines::letter(f)];
-    let d = texts::add(&file, line, b);
-    let e = texts::number(l as u64, line, d);
-    let g = texts::number(c as u64, line, e);
+    let b = texts::number(u64::from(w.number), line, a);
+    let d = texts::add(&[b' ', lines::letter(w.file)], line, b);
+    let e = texts::number(u64::from(w.line), line, d);
+    let g = texts::number(u64::from(w.column), line, e);
     texts::byte(b'\n', line, g)
 }
 
 // The line of an answer to the cross-check.
-fn spell(a: Answer, line: &mut [u8; 120]) -> usize
+fn spell(a: Result<Counts, Refusal>, line: &mut [u8; 120]) -> usize
     ensures added { Adds line.old 0 (line_of (paper a)) line.new result }
     ensures small { result ≤ 114 }
 {
     match a {
-        Answer::Accepted(r, s, x, t, d) => accepted(r, s, x, t, d, line),
-        Answer::Refused(n, f, l, c) => refused(n, f, l, c, line),
+        Ok(c) => accepted(c, line),
+        Err(w) => refused(w, line),
     }
 }
 
 // Says the verdict on a set.
-pub fn verdict(a: Answer, out: &mut [u8]) -> usize
+pub fn verdict(a: Result<Counts, Refusal>, out: &mut [u8]) -> usize
     ensures value { result ≡ length (line_of (paper a)) }
     ensures written { out.new ≡ over (line_of (paper a)) out.old }
     ensures small { result ≤ 114 }
 {
     let mut line = [0u8; 120];
     let n = spell(a, &mut line);
-    place(&line[..n], out);
+    texts::place(&line[..n], out);
     n
 }
 
@@ -82,9 +74,8 @@ fn of_file(word: &[u8], i: u8, out: &mut [u8]) -> usize
 {
     let mut line = [0u8; 16];
     let n = texts::add(word, &mut line, 0);
-    let tail = [lines::letter(i), b'\n'];
-    let m = texts::add(&tail, &mut line, n);
-    place(&line[..m], out);
+    let m = texts::add(&[lines::letter(i), b'\n'], &mut line, n);
+    texts::place(&line[..m], out);
     m
 }
 

@@ -10,7 +10,7 @@ unfolding row values bytes
 returns c = record {
   added = then c.add-a.ensures.added
       (then c.number-b.ensures.added
-      (then c.number-c.ensures.added
+      (then c.number-d.ensures.added
       (then c.number-e.ensures.added (then c.number-f.ensures.added
       (then c.number-g.ensures.added c.byte.ensures.added)))));
   small = omega (arith, c.add-a.ensures.added.ends, c.byte.ensures.added.ends);

@@ -2,16 +2,16 @@
 use Rattle.words.specs.Words.{line}
 use Rattle.words.proofs.spell.Goals as goal
 
-pub returns-in-Accepted : goal.returns-in-Accepted
+pub returns-in-Ok : goal.returns-in-Ok
 unfolding line
-returns-in-Accepted c = record {
-  added = rw c.in-Accepted.is c.accepted.ensures.added;
+returns-in-Ok c = record {
+  added = rw c.in-Ok.is c.accepted.ensures.added;
   small = c.accepted.ensures.small;
 }
 
-pub returns-in-Refused : goal.returns-in-Refused
+pub returns-in-Err : goal.returns-in-Err
 unfolding line
-returns-in-Refused c = record {
-  added = rw c.in-Refused.is c.refused.ensures.added;
+returns-in-Err c = record {
+  added = rw c.in-Err.is c.refused.ensures.added;
   small = c.refused.ensures.small;
 }
