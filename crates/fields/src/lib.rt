@@ -1,6 +1,7 @@
 #![tactic(auto)]
 // Fields: what columns a to b of a line hold, each read once over the columns and the width, and the rules of fields.
-// Columns count from 1 and are given as the paper's two, first and last: a slice at each call would begin one below them. A number is its sign and its size; the signed value is made once, where it is kept.
+// Columns count from 1 and are given as the paper's two, first and last: a slice at each call would begin one below them.
+// A number is its sign and its size; the signed value is made once, where it is kept.
 ghost use Rattle.std.specs.Prelude.{◌≡◌};
 ghost use Rattle.rules.specs.Text.{cols};
 ghost use Rattle.rules.specs.Kinds.{fits as fits_kind};

@@ -8,7 +8,7 @@ use Rattle.words.proofs.refused.Goals as goal
 pub returns : goal.returns
 unfolding row values bytes
 returns c = record {
-  added = rw (← c.letter.ensures.value) (then c.add-a.ensures.added
+  added = rw (← c.letter.ensures.value, ← c.from.ensures, ← c.from-2.ensures, ← c.from-3.ensures) (then c.add-a.ensures.added
       (then c.number-b.ensures.added
       (then c.add-d.ensures.added (then c.number-e.ensures.added
       (then c.number-g.ensures.added c.byte.ensures.added)))));
