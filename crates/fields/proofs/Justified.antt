@@ -105,7 +105,8 @@ pub pointed_is : (l : List ℕ) (a b : ℕ) → 1 ≤ a → pointed (cols l a b)
 unfolding pointed
 pointed_is l a b o = go (ltb a b) refl
   where
-    go : (t : Bool) → ltb a b ≡ t → (leb 2 (length (cols l a b)) && eqb (get_or (cols l a b) (length (cols l a b) - 2) 0) 46) ≡ (t && eqb (get_or l (b - 2) 0) 46)
+    go : (t : Bool) → ltb a b ≡ t
+        → (leb 2 (length (cols l a b)) && eqb (get_or (cols l a b) (length (cols l a b) - 2) 0) 46) ≡ (t && eqb (get_or l (b - 2) 0) 46)
     go true e = let h = ltb-true a b e in rw (wide l a b o h, before l a b o h)
     go false e = rw (short l a b o (ltb-false a b e))
 

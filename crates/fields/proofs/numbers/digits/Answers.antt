@@ -16,6 +16,8 @@ overflow_add-v c = let h = cap _ c.loop-c.invariant.small (omega arith) in omega
 
 pub loop-c-preserved : goal.loop-c-preserved
 loop-c-preserved c = record {
-  small = grow c.args.a _ (omega arith) c.loop-c.invariant.small (digit_value _ _ _ c.is_ascii_digit.ensures.value c.if-not-is_ascii_digit.false c.from.ensures);
-  read = digits_step _ _ _ (omega arith) _ _ c.loop-c.invariant.read (omega arith) _ c.is_ascii_digit.ensures.value _ c.if-not-is_ascii_digit.false c.from.ensures;
+  small = grow c.args.a _ (omega arith) c.loop-c.invariant.small
+      (digit_value _ _ _ c.is_ascii_digit.ensures.value c.if-not-is_ascii_digit.false c.from.ensures);
+  read = digits_step _ _ _ (omega arith) _ _ c.loop-c.invariant.read (omega arith) _ c.is_ascii_digit.ensures.value _
+      c.if-not-is_ascii_digit.false c.from.ensures;
 }
