@@ -3,5 +3,5 @@ use Rattle.std.proofs.Common.{sym, ℕ}
 use Rattle.std.proofs.lemmas.List.{length-replicate}
 use Rattle.cases.proofs.one.Goals as goal
 
-pub slice_bounds-said-end-4 : goal.slice_bounds-said-end-4
-slice_bounds-said-end-4 g c = sym (length-replicate {A = ℕ} 820082 0)
+pub slice_bounds-said-end : goal.slice_bounds-said-end
+slice_bounds-said-end g c = sym (length-replicate {A = ℕ} 820082 0)
