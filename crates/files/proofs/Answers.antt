@@ -6,7 +6,7 @@ use Rattle.std.proofs.Common.{refl, ◌<◌, sym, ◌∙◌, arith}
 use Prim.Native.Nat.{zero-le}
 use borrow.Author.Tests.{le-leb, lt-leb, leb-true}
 use Rattle.rules.specs.Places.{pick}
-use Rattle.files.specs.declared.input.Unusable.TheVariants.{Missing, Longer}
+use Rattle.files.specs.declared.input.Unusable.TheVariants.{Longer}
 use Rattle.files.specs.Reads.{Step, next, came, Follows}
 
 pub went_over : (m room : ℕ) → (m ≡ 0 → ⊥) → room < m → Err Longer ≡ next (Some m) room

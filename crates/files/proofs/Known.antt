@@ -12,7 +12,7 @@ use Rattle.rules.specs.Places.{pick}
 use Rattle.files.specs.declared.input.Unusable.{Unusable}
 use Rattle.files.specs.declared.input.Unusable.TheVariants.{Missing, Longer}
 use Rattle.files.proofs.Kept.{with, left}
-use Rattle.files.specs.Reads.{Step, next, came, Tells, IsRead}
+use Rattle.files.specs.Reads.{Step, next, Tells, IsRead}
 
 ends : (o o' : Option (List ℕ)) (c : List ℕ) → Consumes o o' (take 0 c) → IsAtEnd o' → IsAtEnd o
 ends None o' c h e = tt

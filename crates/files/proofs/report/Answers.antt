@@ -1,5 +1,5 @@
 -- What `files::report` leaves to show.
-use Rattle.std.proofs.Common.{◌≡◌, length, sym, ap, ◌∙◌}
+use Rattle.std.proofs.Common.{◌≡◌, length, ap, ◌∙◌}
 use Rattle.sets.specs.Paper.{paper}
 use Rattle.words.specs.Words.{line}
 use Rattle.texts.specs.Buffer.{over}

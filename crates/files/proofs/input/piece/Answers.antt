@@ -1,8 +1,7 @@
 -- What `files::input::piece` leaves to show.
-use Rattle.std.proofs.Common.{◌≡◌, ◌≤◌, ◌∙◌, Ok, Some, None, refl, sym, ap, length, arith}
+use Rattle.std.proofs.Common.{◌≤◌, ◌∙◌, refl, sym, length, arith}
 use Rattle.std.proofs.lemmas.List.{length-take-le}
 use Rattle.std.proofs.lemmas.Result.{err_from_is_err_and}
-use Rattle.files.specs.Reads.{Step, came}
 use Rattle.files.proofs.Answers.{came_within, came_room}
 use Rattle.files.proofs.Known.{tells}
 use Rattle.files.proofs.input.piece.Given as given

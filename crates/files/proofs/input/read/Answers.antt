@@ -1,5 +1,5 @@
 -- What `files::input::read` leaves to show.
-use Rattle.std.proofs.Common.{◌≡◌, ◌≤◌, ◌∙◌, length, ◌-◌, drop, refl, ap, arith, rules, length-take, length-drop}
+use Rattle.std.proofs.Common.{◌≤◌, ◌∙◌, length, ◌-◌, drop, refl, arith, length-take, length-drop}
 use Rattle.std.proofs.lemmas.Result.{err_from_is_err_and}
 use Rattle.files.proofs.Answers.{came_room}
 use Rattle.files.proofs.Kept.{left, length_with, more_kept, none_kept}
