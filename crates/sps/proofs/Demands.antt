@@ -24,28 +24,25 @@ use Rattle.rules.proofs.Medium.{Lawful, askable}
 use Rattle.rules.proofs.Media.{chosen_lawful, disc_is, tape_is, none_is}
 use Rattle.rules.proofs.Listed.{asked_listed}
 use Rattle.rules.proofs.Hosts.{Sized, file_sized, cross_sized, lookup_sized, back_sized, spread_sized, table_sized}
-use Rattle.lines.specs.declared.Verdict.{Verdict}
+use Rattle.std.specs.Prelude.{Ok, Err}
+use Rattle.lines.specs.Paper.{Verdict, told as told_as}
 use Rattle.form.specs.Paper.{answered}
 use Rattle.form.specs.Said.{Morning}
 use Rattle.form.proofs.Demands.{told as morning_told}
-use Rattle.sets.specs.declared.Answer.{Answer as SetAnswer}
-use Rattle.sets.specs.declared.Answer.TheVariants.{Accepted, Refused as SetRefused}
-use Rattle.sets.specs.Paper.{paper as set_paper}
+use Rattle.sets.specs.Paper.{Answer as SetAnswer, paper as set_paper}
 use Rattle.sets.specs.Judged.{Judged}
 use Rattle.sets.proofs.Demands.{judged, parts}
-use Rattle.tables.specs.declared.Answer.{Answer as LineAnswer}
+use Rattle.tables.specs.Paper.{Answer as LineAnswer}
 use Rattle.tables.specs.Said.{Told}
 use Rattle.tables.proofs.Demands.{told_of}
-use Rattle.traces.specs.declared.Answer.{Answer}
-use Rattle.traces.specs.declared.Spread.{Spread}
 use Rattle.traces.specs.Said.{Traced, Returned, Tabled}
-use Rattle.traces.specs.Paper.{paper_spread}
+use Rattle.traces.specs.Paper.{Answer, ChannelAnswer, Spread, paper_spread}
 use Rattle.traces.specs.Calls.{table_of, SpreadBytes}
 use Rattle.traces.proofs.Told.{traced, came_back, bytes_tabled, odd_byte}
 use Rattle.sps.specs.Table.{SpreadTold}
 use Rattle.sps.specs.Counts.{counted}
-use Rattle.sps.specs.Said.{RefusedAs, TellsForm, TellsParts, TellsSet, Tells, TellsSpread, TellsLine, CountsTold}
-use Rattle.sps.proofs.Told.{refused_as, tells_form, tells_set, tells, tells_spread, tells_line}
+use Rattle.sps.specs.Said.{RefusedAs, TellsForm, TellsParts, TellsSet, Tells, TellsChannel, TellsSpread, TellsLine, CountsTold}
+use Rattle.sps.proofs.Told.{refused_as, tells_form, tells_set, tells, tells_channel, tells_spread, tells_line}
 use Rattle.sps.proofs.Told.{form_answer, set_answer, lookup_answer, back_answer, spread_answer, line_answer}
 use Rattle.sps.proofs.Whole.{tells_parts}
 use Rattle.sps.proofs.Counts.{length_stays, count_at, beyond_stays, refusal_stays}
@@ -92,9 +89,9 @@ module _ (M : Medium) (g : Lawful M) (r s x : List ℕ) where
         a.2,
         record {
           size = length_stays M g r s x o e w;
-          written = λ n m k t d y. count_at M g r s x o e w n m k t d (q (Accepted n m k t d) y);
+          written = λ c y. count_at M g r s x o e w c.receivers c.shots c.relations c.traces c.dead_traces (q (Ok c) y);
           others = beyond_stays M g r s x o e w;
-          unwritten = λ i f l c y. refusal_stays M g r s x o e w (№ i f l c) (q (SetRefused i f l c) y);
+          unwritten = λ d y. refusal_stays M g r s x o e w (told_as d) (q (Err d) y);
         },
       )
 
@@ -109,12 +106,12 @@ module _ (M : Medium) (g : Lawful M) (r s x : List ℕ) where
         )
 
     back_told : (j m n : ℕ) → n ≡ host_number (way_back (file r) (file s) (file x) t k j m)
-        → (v : Answer) × Returned (file r) (file s) (file x) t k j m v × Tells n v
+        → (v : ChannelAnswer) × Returned (file r) (file s) (file x) t k j m v × TellsChannel n v
     back_told j m n e =
         let a = back_answer (file r) (file s) (file x) t k j m in (
           a.0,
           came_back _ _ _ (λ ok. askable M g _ _ x ok) t k j m a.0 a.1,
-          tells a.0 (subst Sized (sym a.1) (back_sized M g r s x t k j m)) n (e ∙ ap host_number (sym a.1)),
+          tells_channel a.0 (subst Sized (sym a.1) (back_sized M g r s x t k j m)) n (e ∙ ap host_number (sym a.1)),
         )
 
   naming_told : (b : ℕ) (c : List ℕ) (n : ℕ) → n ≡ host_number (table_line (file r) (file s) (file x) b c)
@@ -122,8 +119,8 @@ module _ (M : Medium) (g : Lawful M) (r s x : List ℕ) where
   naming_told b c n e =
       let a = line_answer (file r) (file s) (file x) b c in (
         a.0,
-        told_of _ _ _ b c a.0 a.1,
-        tells_line a.0 (subst Sized (sym a.1) (table_sized M g r s x b c)) n (e ∙ ap host_number (sym a.1)),
+        told_of _ _ _ b c a.0 a.1.0 a.1.1,
+        tells_line a.0 (subst Sized (sym a.1.0) (table_sized M g r s x b c)) n (e ∙ ap host_number (sym a.1.0)),
       )
 
   table_told : (t : List ℕ) (k : ℕ) (d e d' e' : List ℕ) (n : ℕ) (u : PaperAnswer) → n ≡ host_number u
@@ -235,8 +232,8 @@ trace_told κs a n w p =
 pub channel_told : (κs : Lfts 4) (a : ArgsD sps_channel.signature κs) (n : ResD sps_channel.signature κs) (w : AtExit sps_channel.ended κs)
     → sps_channel_reads.Post κs a n w
     → Chosen (choice a.0)
-    (λ M. (v : Answer) × Returned (sheet M sps93 a.1.0.now) (sheet M sps93 a.1.1.0.now) (sheet M sps93 a.1.1.1.0.now)
-    a.1.1.1.1.0.now a.1.1.1.1.1.0 a.1.1.1.1.1.1.0 a.1.1.1.1.1.1.1.0 v × Tells n v)
+    (λ M. (v : ChannelAnswer) × Returned (sheet M sps93 a.1.0.now) (sheet M sps93 a.1.1.0.now) (sheet M sps93 a.1.1.1.0.now)
+    a.1.1.1.1.0.now a.1.1.1.1.1.0 a.1.1.1.1.1.1.0 a.1.1.1.1.1.1.1.0 v × TellsChannel n v)
     (RefusedAs n 20 0 0 0)
 channel_told κs a n w p =
     told (choice a.0) _ _

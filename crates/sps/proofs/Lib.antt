@@ -1,3 +1,4 @@
+pub mod Chosen
 pub mod Placed
 pub mod Counts
 pub mod One

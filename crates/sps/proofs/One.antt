@@ -13,24 +13,16 @@ use Rattle.outcome.specs.One.{One, both}
 use Rattle.sets.proofs.One.{answer_one as set_one}
 use Rattle.sps.specs.contracts.pack as pack
 use Rattle.sps.proofs.pack.Reads as pack_reads
-use Rattle.sps.specs.contracts.set_number as set_number
-use Rattle.sps.proofs.set_number.Reads as set_number_reads
 use Rattle.sps.specs.contracts.put_counts as put_counts
 use Rattle.sps.proofs.put_counts.Reads as put_counts_reads
 use Rattle.sps.specs.contracts.mark as mark
 use Rattle.sps.proofs.mark.Reads as mark_reads
-use Rattle.sps.specs.contracts.question_number as question_number
-use Rattle.sps.proofs.question_number.Reads as question_number_reads
-use Rattle.sps.specs.contracts.spread_number as spread_number
-use Rattle.sps.proofs.spread_number.Reads as spread_number_reads
 use Rattle.sps.specs.contracts.places.put as places_put
 use Rattle.sps.proofs.places.put.Reads as places_put_reads
 use Rattle.sps.specs.contracts.places.put_all as places_put_all
 use Rattle.sps.proofs.places.put_all.Reads as places_put_all_reads
 use Rattle.sps.specs.contracts.crossed as crossed
 use Rattle.sps.proofs.crossed.Reads as crossed_reads
-use Rattle.sps.specs.contracts.form_number as form_number
-use Rattle.sps.proofs.form_number.Reads as form_number_reads
 use Rattle.sps.specs.contracts.sps_form as sps_form
 use Rattle.sps.proofs.sps_form.Reads as sps_form_reads
 use Rattle.sps.specs.contracts.sps_cross as sps_cross
@@ -41,8 +33,6 @@ use Rattle.sps.specs.contracts.sps_trace as sps_trace
 use Rattle.sps.proofs.sps_trace.Reads as sps_trace_reads
 use Rattle.sps.specs.contracts.sps_channel as sps_channel
 use Rattle.sps.proofs.sps_channel.Reads as sps_channel_reads
-use Rattle.sps.specs.contracts.line_number as line_number
-use Rattle.sps.proofs.line_number.Reads as line_number_reads
 use Rattle.sps.specs.contracts.sps_table_line as sps_table_line
 use Rattle.sps.proofs.sps_table_line.Reads as sps_table_line_reads
 use Rattle.sps.specs.contracts.line.sps_read_point as sps_read_point
@@ -61,20 +51,11 @@ use Rattle.sps.proofs.sps_spread.Reads as sps_spread_reads
 pub pack_one : One pack.ended pack_reads.Post
 pack_one κs a v v' w w' p p' = (p ∙ sym p', refl)
 
-pub set_number_one : One set_number.ended set_number_reads.Post
-set_number_one κs a v v' w w' p p' = (p ∙ sym p', refl)
-
 pub put_counts_one : One put_counts.ended put_counts_reads.Post
 put_counts_one κs a v v' w w' p p' = (refl, both refl (both (p ∙ sym p') refl))
 
 pub mark_one : One mark.ended mark_reads.Post
 mark_one κs a v v' w w' p p' = (p ∙ sym p', refl)
-
-pub question_number_one : One question_number.ended question_number_reads.Post
-question_number_one κs a v v' w w' p p' = (p ∙ sym p', refl)
-
-pub spread_number_one : One spread_number.ended spread_number_reads.Post
-spread_number_one κs a v v' w w' p p' = (p ∙ sym p', refl)
 
 pub places_put_one : One places_put.ended places_put_reads.Post
 places_put_one κs a v v' w w' p p' = (refl, both refl (both refl (both (p ∙ sym p') refl)))
@@ -84,9 +65,6 @@ places_put_all_one κs a v v' w w' p p' = (refl, both refl (both (p ∙ sym p') 
 
 pub crossed_one : One crossed.ended crossed_reads.Post
 crossed_one κs a v v' w w' p p' = (set_one v v' (p ∙ sym p'), refl)
-
-pub form_number_one : One form_number.ended form_number_reads.Post
-form_number_one κs a v v' w w' p p' = (p ∙ sym p', refl)
 
 pub sps_form_one : One sps_form.ended sps_form_reads.Post
 sps_form_one κs a v v' w w' p p' = (p ∙ sym p', refl)
@@ -102,9 +80,6 @@ sps_trace_one κs a v v' w w' p p' = (p ∙ sym p', refl)
 
 pub sps_channel_one : One sps_channel.ended sps_channel_reads.Post
 sps_channel_one κs a v v' w w' p p' = (p ∙ sym p', refl)
-
-pub line_number_one : One line_number.ended line_number_reads.Post
-line_number_one κs a v v' w w' p p' = (p ∙ sym p', refl)
 
 pub sps_table_line_one : One sps_table_line.ended sps_table_line_reads.Post
 sps_table_line_one κs a v v' w w' p p' = (p ∙ sym p', refl)

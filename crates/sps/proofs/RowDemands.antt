@@ -15,7 +15,7 @@ use Rattle.rules.specs.TraceRows.{traces_in}
 use Rattle.rules.specs.Hosts.{host_number}
 use Rattle.rules.proofs.Medium.{Lawful, askable}
 use Rattle.rules.proofs.Media.{chosen_lawful}
-use Rattle.sets.specs.declared.Answer.{Answer as SetAnswer}
+use Rattle.sets.specs.Paper.{Answer as SetAnswer}
 use Rattle.sets.specs.Judged.{Judged}
 use Rattle.traces.specs.Said.{TracesTold}
 use Rattle.traces.proofs.Rowed.{rowed}

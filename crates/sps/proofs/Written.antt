@@ -12,13 +12,12 @@ use borrow.Author.Tests.{eq-eqb, ne_eqb}
 use Rattle.rules.specs.Plan.{№, Verdict as PaperVerdict, refused, run}
 use Rattle.rules.specs.Writer.{writes, into}
 use Rattle.rules.specs.Carried.{point_given, relation_given, reach_given}
-use Rattle.rules.specs.Hosts.{packed, host_number, host_verdict}
+use Rattle.rules.specs.Hosts.{packed, host_verdict}
 use Rattle.rules.proofs.Steps.{need_broken, before_broken}
-use Rattle.lines.specs.Paper.{paper}
-use Rattle.lines.specs.declared.Verdict.{Verdict}
-use Rattle.lines.specs.declared.Verdict.TheVariants.{Fine, Refused}
-use Rattle.form.specs.Paper.{answered}
+use Rattle.std.specs.Prelude.{Ok, Err}
+use Rattle.lines.specs.Paper.{Verdict, paper}
 use Rattle.writer.specs.Given.{point_takes, point_text, relation_takes, relation_text}
+use Rattle.sps.specs.Number.{number_of}
 use Rattle.sps.specs.Values.{given, Sixteen, point_taken, point_written, relation_taken, relation_written}
 
 -- numbers that are those of the places
@@ -126,16 +125,16 @@ module _ (t : Bool) (e : false ≡ t) (m : ℕ) where
   short_line l o = ap (λ (v : PaperVerdict). into v l o) short_run
 
 -- a verdict of the writer
-verdict_number : (v : Verdict) → host_number (answered v) ≡ host_verdict (paper v)
-unfolding host_number host_verdict
-verdict_number Fine = refl
-verdict_number (Refused n f l c) = refl
+verdict_number : (v : Verdict) → number_of (λ _. 0) v ≡ host_verdict (paper v)
+unfolding host_verdict
+verdict_number (Ok _) = refl
+verdict_number (Err e) = refl
 
 module _ (v : Verdict) (t u : Bool) (q : t ≡ u) (m : ℕ) (p : paper v ≡ run (writes t m)) where
   written_run : paper v ≡ run (writes u m)
   written_run = p ∙ ap (λ (t : Bool). run (writes t m)) q
 
-  pub written_number : (a : ℕ) → a ≡ host_number (answered v) → a ≡ host_verdict (run (writes u m))
+  pub written_number : (a : ℕ) → a ≡ number_of (λ _. 0) v → a ≡ host_verdict (run (writes u m))
   written_number a e = e ∙ verdict_number v ∙ ap host_verdict written_run
 
   pub written_line : (l k o e : List ℕ) → l ≡ k → e ≡ into (paper v) l o → e ≡ into (run (writes u m)) k o

@@ -3,115 +3,137 @@
 // line that names a code and all traces as rows, on numbers and byte slices; in `line` the values of one line, read and written.
 // Each carries the answer of the proved call over as one 64-bit number: a refusal from 2^40 on, any other answer below. The number of the
 // medium comes first, and is looked at before all else.
-ghost use Rattle.std.specs.Prelude.{◌≡◌, ◌^◌};
+ghost use Rattle.std.specs.Prelude.{◌≡◌, ◌^◌, ℕ};
 ghost use Rattle.rules.specs.Places.{pick};
-ghost use Rattle.rules.specs.Plan.{№};
 ghost use Rattle.rules.specs.Layout.{sps93};
 ghost use Rattle.rules.specs.Medium.{sheet};
 ghost use Rattle.rules.specs.Calls.{choice, form_in, cross_in, lookup_in, way_back_in, table_line_in, rows_in};
 ghost use Rattle.rules.specs.Hosts.{packed, host_number};
-ghost use Rattle.form.specs.Paper.{answered};
+ghost use Rattle.lines.specs.Paper.{told};
 ghost use Rattle.sets.specs.Paper.{paper as set_paper};
-ghost use Rattle.traces.specs.Paper.{paper as question_paper, paper_spread};
 ghost use Rattle.traces.specs.Calls.{table_of};
-ghost use Rattle.tables.specs.Paper.{paper as line_paper};
 ghost use Rattle.sps.specs.Counts.{counted};
+ghost use Rattle.sps.specs.Number.{number_of, or_zero, trace_number, ReadBy};
 ghost use Rattle.sps.specs.Table.{SpreadTold};
 
-use lines::{Choice, Verdict};
-use sets::Answer as SetAnswer;
-use tables::Answer as LineAnswer;
-use traces::{Answer, Question, Spread};
+use lines::{Reading, Refusal};
+use sets::Counts;
+use traces::{Question, Reached};
 
 mod line;
 mod places;
 
 // A refusal as one number.
-fn pack(number: u8, place: u8, line: u32, column: u8) -> u64
-    ensures value { result ≡ packed (№ number place line column) }
+#[tactic(auto, unfolding(rules::specs::Hosts::packed))]
+fn pack(e: Refusal) -> u64
+    ensures value { result ≡ packed (told e) }
 {
-    number as u64 * 1099511627776 + place as u64 * 4294967296 + line as u64 * 256 + column as u64
+    u64::from(e.number) * 1099511627776
+        + u64::from(e.file) * 4294967296
+        + u64::from(e.line) * 256
+        + u64::from(e.column)
 }
 
-// The verdict on the form of one file as one number: 0 where it is well formed.
-fn form_number(v: Verdict) -> u64
-    ensures value { result ≡ host_number (answered v) }
-{
-    match v {
-        Verdict::Fine => 0,
-        Verdict::Refused(n, f, l, c) => pack(n, f, l, c),
+// What a call answers, as one number below 2^40.
+trait HostAnswer {
+    ghost told_as: { Self → ℕ };
+
+    fn told(self) -> u64
+        ensures value { result ≡ told_as self };
+}
+
+// A file that is well formed.
+impl HostAnswer for () {
+    ghost told_as = { λ _. 0 };
+
+    fn told(self) -> u64 {
+        0
     }
 }
 
-// The answer to the cross-check as one number: the traces.
-fn set_number(a: SetAnswer) -> u64
-    ensures value { result ≡ host_number (set_paper a) }
-{
-    match a {
-        SetAnswer::Accepted(_, _, _, t, _) => t,
-        SetAnswer::Refused(n, f, l, c) => pack(n, f, l, c),
+// The traces of a set.
+impl HostAnswer for Counts {
+    ghost told_as = { λ c. c.traces };
+
+    fn told(self) -> u64 {
+        self.traces
     }
 }
 
-// Puts the receivers, shots, relation lines, traces and dead traces of an accepted set. A refusal writes nothing.
-fn put_counts(a: SetAnswer, counts: &mut [u8])
-    ensures written { counts.new ≡ counted (set_paper a) counts.old }
-{
-    match a {
-        SetAnswer::Accepted(n, m, k, t, d) => places::put_all(&[n, m, k, t, d], counts),
-        SetAnswer::Refused(_, _, _, _) => {}
+// What a channel leads to: the R line and component with the receiver's mark, 0 for no trace.
+impl HostAnswer for Option<Reached> {
+    ghost told_as = { trace_number };
+
+    fn told(self) -> u64 {
+        match self {
+            Some(t) => u64::from(t.line) * 16 + u64::from(t.component) + mark(t.killed),
+            None => 0,
+        }
+    }
+}
+
+// A channel or a line, 0 for none.
+impl HostAnswer for Option<u32> {
+    ghost told_as = { or_zero };
+
+    fn told(self) -> u64 {
+        match self {
+            Some(n) => u64::from(n),
+            None => 0,
+        }
+    }
+}
+
+// The highest channel, or the state of a point.
+impl HostAnswer for u64 {
+    ghost told_as = { λ n. n };
+
+    fn told(self) -> u64 {
+        self
     }
 }
 
 // The mark of a killed receiver.
+#[tactic(auto, unfolding(rules::specs::Places::pick))]
 fn mark(killed: bool) -> u64
     ensures value { result ≡ pick killed (2 ^ 32) 0 }
 {
-    if killed {
-        return 4294967296;
-    }
-    0
+    if killed { 4294967296 } else { 0 }
 }
 
-// The answer to a lookup or the way back as one number: the R line and component with the receiver's mark, the channel, or 0.
-fn question_number(a: Answer) -> u64
-    ensures value { result ≡ host_number (question_paper a) }
+// An answer as one number.
+fn number<T: HostAnswer>(r: Result<T, Refusal>) -> u64
+    ensures value { result ≡ number_of T.told_as r }
 {
-    match a {
-        Answer::Trace(l, m, d) => l as u64 * 16 + m as u64 + mark(d),
-        Answer::Channel(c) => c as u64,
-        Answer::NoTrace => 0,
-        Answer::Refused(n, f, l, c) => pack(n, f, l, c),
+    match r {
+        Ok(v) => v.told(),
+        Err(e) => pack(e),
     }
 }
 
-// The answer of the spread table as one number: the highest channel.
-fn spread_number(a: Spread) -> u64
-    ensures value { result ≡ host_number (paper_spread a) }
+// How the files of the medium's number are read: 20 where it is none.
+fn reading(medium: u64) -> Result<Reading, Refusal>
+    ensures by { ReadBy (choice medium) result }
 {
-    match a {
-        Spread::Highest(h) => h,
-        Spread::Refused(n, f, l, c) => pack(n, f, l, c),
-    }
-}
-
-// The answer on the code tables as one number: the header line.
-fn line_number(a: LineAnswer) -> u64
-    ensures value { result ≡ host_number (line_paper a) }
-{
-    match a {
-        LineAnswer::Line(l) => l as u64,
-        LineAnswer::Refused(n, f, l, c) => pack(n, f, l, c),
-    }
+    lines::chosen(medium).ok_or(lines::unplaced(20))
 }
 
 // The cross-check of the medium's number.
-fn crossed(medium: u64, r: &[u8], s: &[u8], x: &[u8]) -> SetAnswer
+fn crossed(medium: u64, r: &[u8], s: &[u8], x: &[u8]) -> Result<Counts, Refusal>
     ensures answer { set_paper result ≡ cross_in (choice medium) r.now s.now x.now }
 {
-    match lines::chosen(medium) {
-        Choice::On(how) => sets::cross(how, r, s, x),
-        Choice::None => SetAnswer::Refused(20, 0, 0, 0),
+    reading(medium).and_then(|how| sets::cross(how, r, s, x))
+}
+
+// Puts the receivers, shots, relation lines, traces and dead traces of an accepted set. A refusal writes nothing.
+fn put_counts(a: Result<Counts, Refusal>, counts: &mut [u8])
+    ensures written { counts.new ≡ counted (set_paper a) counts.old }
+{
+    if let Ok(c) = a {
+        places::put_all(
+            &[c.receivers, c.shots, c.relations, c.traces, c.dead_traces],
+            counts,
+        );
     }
 }
 
@@ -120,10 +142,7 @@ fn crossed(medium: u64, r: &[u8], s: &[u8], x: &[u8]) -> SetAnswer
 pub extern "C" fn sps_form(medium: u64, kind: u64, file: &[u8]) -> u64
     ensures answer { result ≡ host_number (form_in (choice medium) kind file.now) }
 {
-    match lines::chosen(medium) {
-        Choice::On(how) => form_number(form::form(how, kind, file)),
-        Choice::None => pack(20, 0, 0, 0),
-    }
+    number(reading(medium).and_then(|how| form::form(how, kind, file)))
 }
 
 // The cross-check of a set: its traces.
@@ -131,7 +150,7 @@ pub extern "C" fn sps_form(medium: u64, kind: u64, file: &[u8]) -> u64
 pub extern "C" fn sps_cross(medium: u64, r: &[u8], s: &[u8], x: &[u8]) -> u64
     ensures answer { result ≡ host_number (cross_in (choice medium) r.now s.now x.now) }
 {
-    set_number(crossed(medium, r, s, x))
+    number(crossed(medium, r, s, x))
 }
 
 // The same, and the receivers, shots, relation lines, traces and dead traces of an accepted set in counts: places of eight bytes, low byte first, of
@@ -144,7 +163,7 @@ pub extern "C" fn sps_counts(medium: u64, r: &[u8], s: &[u8], x: &[u8], counts: 
 {
     let a = crossed(medium, r, s, x);
     put_counts(a, counts);
-    set_number(a)
+    number(a)
 }
 
 // The lookup: R line * 16 + component, 2^32 more where the receiver is killed, 0 for no trace.
@@ -161,12 +180,9 @@ pub extern "C" fn sps_trace(
     ensures answer { result
         ≡ host_number (lookup_in (choice medium) r.now s.now x.now tape.now «record» channel) }
 {
-    match lines::chosen(medium) {
-        Choice::On(how) => {
-            question_number(traces::trace(Question { how, record }, r, s, x, tape, channel))
-        }
-        Choice::None => pack(20, 0, 0, 0),
-    }
+    number(reading(medium).and_then(|how| {
+        traces::trace(Question { how, record }, r, s, x, tape, channel)
+    }))
 }
 
 // The way back: the channel, 0 for no trace.
@@ -184,13 +200,9 @@ pub extern "C" fn sps_channel(
     ensures answer { result
         ≡ host_number (way_back_in (choice medium) r.now s.now x.now tape.now «record» r_line component) }
 {
-    match lines::chosen(medium) {
-        Choice::On(how) => {
-            let q = Question { how, record };
-            question_number(traces::channel(q, r, s, x, tape, r_line, component))
-        }
-        Choice::None => pack(20, 0, 0, 0),
-    }
+    number(reading(medium).and_then(|how| {
+        traces::channel(Question { how, record }, r, s, x, tape, r_line, component)
+    }))
 }
 
 // The spread table: the highest channel; the lines are numbers of two bytes, low byte first.
@@ -209,12 +221,13 @@ pub extern "C" fn sps_spread(
         tape.now «record» lines.old components.old)
         lines.old components.old result lines.new components.new }
 {
-    match lines::chosen(medium) {
-        Choice::On(how) => {
+    // A match: a closure does not say what it leaves in a lent slice.
+    match reading(medium) {
+        Ok(how) => {
             let q = Question { how, record };
-            spread_number(traces::spread_bytes(q, r, s, x, tape, lines, components))
+            number(traces::spread_bytes(q, r, s, x, tape, lines, components))
         }
-        Choice::None => pack(20, 0, 0, 0),
+        Err(e) => pack(e),
     }
 }
 
@@ -231,10 +244,7 @@ pub extern "C" fn sps_table_line(
     ensures answer { result
         ≡ host_number (table_line_in (choice medium) r.now s.now x.now kind code.now) }
 {
-    match lines::chosen(medium) {
-        Choice::On(how) => line_number(tables::table_line(how, r, s, x, kind, code)),
-        Choice::None => pack(20, 0, 0, 0),
-    }
+    number(reading(medium).and_then(|how| tables::table_line(how, r, s, x, kind, code)))
 }
 
 // All traces of a set as rows of sixteen bytes: of an accepted set those from trace `first` on go into the places of a slice, as many as it has
@@ -252,8 +262,9 @@ pub extern "C" fn sps_traces(
     ensures written { rows.new
         ≡ rows_in (choice medium) r.now s.now x.now first rows.old }
 {
-    match lines::chosen(medium) {
-        Choice::On(how) => set_number(traces::rows(how, r, s, x, first, rows)),
-        Choice::None => pack(20, 0, 0, 0),
+    // A match, as above.
+    match reading(medium) {
+        Ok(how) => number(traces::rows(how, r, s, x, first, rows)),
+        Err(e) => pack(e),
     }
 }

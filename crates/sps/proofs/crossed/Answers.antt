@@ -1,22 +1,17 @@
 -- What `sps::crossed` leaves to show.
+use Rattle.std.proofs.Common.{refl, rules}
 use Rattle.rules.specs.Layout.{sps93}
 use Rattle.rules.specs.Medium.{Medium, sheet}
 use Rattle.rules.specs.Check.{cross}
 use Rattle.lines.specs.Reading.{sheet_of}
-use Rattle.sps.proofs.Told.{by_choice, no_choice}
+use Rattle.sets.specs.Paper.{paper}
+use Rattle.sps.proofs.Chosen.{by_reading}
 use Rattle.sps.proofs.crossed.Goals as goal
 
-pub returns-in-On : goal.returns-in-On
+pub returns : goal.returns
 unfolding sheet_of
-returns-in-On c = record {
+returns c = record {
   answer = let a = c.args in
-      by_choice _ _ c.chosen.ensures.value _ c.in-On.is
-      (λ (M : Medium). cross (sheet M sps93 a.r.now) (sheet M sps93 a.s.now) (sheet M sps93 a.x.now)) _ c.cross.ensures.answer;
-}
-
-pub returns-in-None : goal.returns-in-None
-returns-in-None c = record {
-  answer = let a = c.args in
-      no_choice _ _ c.chosen.ensures.value c.in-None.is
-      (λ (M : Medium). cross (sheet M sps93 a.r.now) (sheet M sps93 a.s.now) (sheet M sps93 a.x.now));
+      by_reading _ _ c.reading.ensures.by _ _ c.and_then.ensures paper (λ e. refl)
+      (λ (M : Medium). cross (sheet M sps93 a.r.now) (sheet M sps93 a.s.now) (sheet M sps93 a.x.now)) (λ how w. search rules);
 }

@@ -1,28 +1,20 @@
 -- What `sps::sps_form` leaves to show.
-use mathlib.Core.Path.{◌∙◌, ap}
+use Rattle.std.proofs.Common.{refl, ap, ◌∙◌, rules}
 use Rattle.rules.specs.Layout.{sps93}
 use Rattle.rules.specs.Medium.{Medium, sheet}
 use Rattle.rules.specs.OneFile.{file_form}
 use Rattle.rules.specs.Hosts.{host_number}
 use Rattle.lines.specs.Reading.{sheet_of}
-use Rattle.sps.proofs.Told.{by_choice, no_choice}
+use Rattle.form.specs.Paper.{answered}
+use Rattle.sps.proofs.Chosen.{by_reading, form_number}
 use Rattle.sps.proofs.sps_form.Goals as goal
 
-pub returns-in-On : goal.returns-in-On
+pub returns : goal.returns
 unfolding sheet_of
-returns-in-On c = record {
+returns c = record {
   answer = let a = c.args in
-      c.form_number.ensures.value
-      ∙ ap host_number (by_choice _ _ c.chosen.ensures.value _ c.in-On.is
-      (λ (M : Medium). file_form a.kind (sheet M sps93 a.file.now)) _
-      c.form.ensures.answer);
-}
-
-pub returns-in-None : goal.returns-in-None
-unfolding host_number
-returns-in-None c = record {
-  answer = let a = c.args in
-      c.pack.ensures.value
-      ∙ ap host_number (no_choice _ _ c.chosen.ensures.value c.in-None.is
-      (λ (M : Medium). file_form a.kind (sheet M sps93 a.file.now)));
+      c.number.ensures.value
+      ∙ form_number _
+      ∙ ap host_number (by_reading _ _ c.reading.ensures.by _ _ c.and_then.ensures answered (λ e. refl)
+      (λ (M : Medium). file_form a.kind (sheet M sps93 a.file.now)) (λ how w. search rules));
 }

@@ -1,14 +1,17 @@
 -- What `sps::sps_spread` leaves to show.
+use Rattle.std.proofs.Common.{refl, ap, ◌∙◌}
+use Rattle.rules.specs.Hosts.{packed}
 use Rattle.lines.specs.Reading.{sheet_of}
-use mathlib.Core.Path.{refl}
-use Rattle.sps.proofs.Told.{chose_on, chose_none}
+use Rattle.sps.proofs.Chosen.{when_on, when_none, spread_number}
 use Rattle.sps.proofs.sps_spread.Goals as goal
 
-pub returns-in-On : goal.returns-in-On
+pub returns-in-Ok : goal.returns-in-Ok
 unfolding sheet_of
-returns-in-On c = record {
-  table = rw (← (chose_on _ _ c.chosen.ensures.value _ c.in-On.is)) (_, (c.spread_number.ensures.value, c.spread_bytes.ensures.table));
+returns-in-Ok c = record {
+  table = when_on _ _ _ _ c.in-Ok.ensures.by (_, (c.number.ensures.value ∙ spread_number _, c.spread_bytes.ensures.table));
 }
 
-pub returns-in-None : goal.returns-in-None
-returns-in-None c = record { table = rw (← (chose_none _ _ c.chosen.ensures.value c.in-None.is)) (c.pack.ensures.value, (refl, refl)) }
+pub returns-in-Err : goal.returns-in-Err
+returns-in-Err c = record {
+  table = when_none _ _ _ c.in-Err.ensures.by.0 (c.pack.ensures.value ∙ ap packed c.in-Err.ensures.by.1, (refl, refl));
+}

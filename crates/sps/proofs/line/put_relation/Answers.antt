@@ -1,9 +1,20 @@
 -- What `sps::line::put_relation` leaves to show.
-use Rattle.sps.proofs.Read.{relation_told, relation_refused}
+use Rattle.std.proofs.lemmas.Result.{err_from_is_err_and}
+use Rattle.lines.specs.Reading.{sheet_of}
+use Rattle.sps.proofs.Chosen.{when_on, when_none}
+use Rattle.sps.proofs.Read.{nothing_told, refused_told, relation_told}
 use Rattle.sps.proofs.line.put_relation.Goals as goal
 
-pub returns-in-Read : goal.returns-in-Read
-returns-in-Read c = record { told = relation_told _ _ _ c.put_all.ensures.written _ _ c.in-Read.is c.relation_places-ps.ensures.value }
+pub returns-in_err-reading : goal.returns-in_err-reading
+returns-in_err-reading c = let p = err_from_is_err_and c.from_residual.result c.from_residual.ensures.1 in
+    record { told = rw (p.1, p.2) (when_none _ _ _ c.in_err-reading.ensures.by.0 (nothing_told _ c.in_err-reading.ensures.by.1 _)) }
 
-pub returns-in-Refused : goal.returns-in-Refused
-returns-in-Refused c = record { told = relation_refused _ _ _ _ _ _ c.pack.ensures.value _ c.in-Refused.is }
+pub returns-in_err-q : goal.returns-in_err-q
+unfolding sheet_of
+returns-in_err-q c = let p = err_from_is_err_and c.from_residual-in_err-q.result c.from_residual-in_err-q.ensures.1 in
+    record { told = rw (p.1, p.2) (when_on _ _ _ _ c.in_ok-reading.ensures.by (refused_told _ _ c.in_err-q.ensures.read _ _ _)) }
+
+pub returns : goal.returns
+unfolding sheet_of
+returns c = let r = c.in_ok-q.ensures.read in
+    record { told = when_on _ _ _ _ c.in_ok-reading.ensures.by (relation_told _ _ r.0 r.1 _ c.relation_places.ensures.value _ _ c.put_all.ensures.written) }

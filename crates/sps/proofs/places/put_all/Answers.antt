@@ -1,5 +1,5 @@
 -- What `sps::places::put_all` leaves to show.
-use Rattle.std.proofs.Common.{refl, arith}
+use Rattle.std.proofs.Common.{arith}
 use Rattle.sps.proofs.Placed.{from_all, place_more, places_put}
 use Rattle.sps.proofs.places.put_all.Goals as goal
 

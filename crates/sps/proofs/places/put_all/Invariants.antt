@@ -1,5 +1,5 @@
 -- What the loop of `sps::places::put_all` keeps.
-use Rattle.std.proofs.Common.{◌≡◌, drop, length}
+use Rattle.std.proofs.Common.{◌≡◌, drop}
 use Rattle.sps.specs.Counts.{placed, placed_from}
 use Rattle.sps.proofs.places.put_all.Given as goal
 
