@@ -13,7 +13,8 @@ returns-in_err-came-clause-written g c = let p = err_from_is_err_and c.from_resi
 
 pub returns-in_err-came-clause-bytes : goal.returns-in_err-came-clause-bytes
 returns-in_err-came-clause-bytes g c = let p = err_from_is_err_and c.from_residual.result c.from_residual.ensures.1 in
-    rw (p.1, p.2) (λ l. tells _ _ c.read.result _ _ _ _ c.read.ensures.bound c.read.ensures.bytes c.ok-got.ensures.value c.in_err-came.ensures.value (omega arith))
+    rw (p.1, p.2) (λ l. tells _ _ c.read.result _ _ _ _ c.read.ensures.bound c.read.ensures.bytes
+    c.ok-got.ensures.value c.in_err-came.ensures.value (omega arith))
 
 -- as many bytes as came stand in the chunk, and have room
 stand : (g : given.Over) (c : In-Some g) → c.in-Some.m ≤ length c.read.new.buf
@@ -42,7 +43,8 @@ returns-in-Some-clause-stands g c = stand g (goal.at.returns-in-Some-clause-stan
 
 pub returns-in-Some-clause-bytes : goal.returns-in-Some-clause-bytes
 returns-in-Some-clause-bytes g c l =
-    tells _ _ c.read.result _ _ _ _ c.read.ensures.bound c.read.ensures.bytes c.ok-got.ensures.value (rw c.in-Some.is at c.in_ok-came.ensures.value) (omega arith)
+    tells _ _ c.read.result _ _ _ _ c.read.ensures.bound c.read.ensures.bytes
+    c.ok-got.ensures.value (rw c.in-Some.is at c.in_ok-came.ensures.value) (omega arith)
 
 pub returns-in_default-clause-written : goal.returns-in_default-clause-written
 returns-in_default-clause-written g c = rw c.in_default.is refl
