@@ -12,21 +12,12 @@ ghost use Rattle.rules.specs.Relations.{relation as relation_values};
 ghost use Rattle.rules.specs.Carried.{point_places, relation_places};
 ghost use Rattle.lines.specs.Paper.{paper};
 ghost use Rattle.form.specs.Steps.{fields_of};
-ghost use Rattle.probe.specs.Host.{over, told as told_of};
+ghost use Rattle.texts.specs.Buffer.{over};
+ghost use Rattle.probe.specs.Host.{told as told_of};
 
 use lines::Verdict;
 use records::{point, relation};
 use values::places;
-
-// Puts a part into the first places of out, where it has room.
-#[tactic(auto, unfolding(crate::specs::Host::over, rules::specs::Places::pick))]
-fn put(p: &[u8], out: &mut [u8])
-    ensures written { out.new ≡ over p.now out.old }
-{
-    if p.len() <= out.len() {
-        out[..p.len()].copy_from_slice(p);
-    }
-}
 
 // Shows line n of the file of that letter: its columns stand in the first places of out, where they have room. Answers how many
 // columns there are.
@@ -42,7 +33,7 @@ pub extern "C" fn probe_show<'a>(
     ensures written { out.new ≡ over (show_of r.now s.now letter n) out.old }
 {
     let p = lines::show(r, s, letter, n);
-    put(p, out);
+    texts::place(p, out);
     p.len() as u64
 }
 
