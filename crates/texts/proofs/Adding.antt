@@ -7,11 +7,9 @@ use native.Mathlib.Omega.{arith}
 use borrow.Rule.Slice.PartMut.{put_mid, drop_put}
 use Rattle.std.proofs.Math.Seq.{take-append_seam}
 use Rattle.std.proofs.Common.{length-drop}
-use lib.ListN.{length, take, drop, length-append, length-take, take-append-drop}
+use lib.ListN.{length, take, drop, length-append, length-take}
 use lib.Seq.{drop-drop}
-use borrow.Author.Tests.{le-leb}
-use Rattle.rules.specs.Places.{pick}
-use Rattle.texts.specs.Buffer.{Adds, over}
+use Rattle.texts.specs.Buffer.{Adds}
 
 -- what stays from one place on stays from a later one on
 drop_later : (a b : List ℕ) (n k : ℕ) → drop n a ≡ drop n b → drop (n + k) a ≡ drop (n + k) b
@@ -41,17 +39,6 @@ adds_part a p n k h e =
           ∙ take-append_seam (take n a ++ p) (drop (n + k - n) (drop n a));
       rest = drop_put n (n + k) a p (omega arith) h (omega arith);
     }
-
--- what is added from the first place on stands over the rest
-pub over_is : (a t b : List ℕ) (m : ℕ) → length t ≤ length a → Adds a 0 t b m → b ≡ over t a
-unfolding over pick
-over_is a t b m h e =
-    let k : m ≡ length t = e.ends ∙ zero-add (length t) in
-    sym (take-append-drop m b)
-    ∙ ap (λ (l : List ℕ). l ++ drop m b) e.front
-    ∙ ap (λ (l : List ℕ). t ++ l) e.rest
-    ∙ ap (λ (i : ℕ). t ++ drop i a) k
-    ∙ (rw (le-leb _ _ h))
 
 -- the first m places hold what was added
 pub starts : {a t b : List ℕ} {m : ℕ} → Adds a 0 t b m → (take m b ≡ t) × (m ≡ length t)
