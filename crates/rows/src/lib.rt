@@ -8,7 +8,7 @@ ghost use Rattle.dead.specs.Dead.{Lines};
 ghost use Rattle.spread.specs.Asked.{Accepted};
 ghost use Rattle.rows.specs.Filled.{Marked, Ready, filled, places_to};
 
-use keys::{By, Keyed};
+use keys::Keyed;
 use lines::Reading;
 use part::Part;
 use records::{cover, relation};
@@ -61,14 +61,7 @@ fn put_line(w: Wanted, r: &[u8], o: &[u32], t: &[u32], x: &[u8], l: Line, places
 {
     let how = w.how;
     let k = l.k;
-    if !keys::takes(
-        Keyed {
-            how,
-            by: By::Records,
-        },
-        x,
-        k,
-    ) {
+    if !keys::takes(Keyed::records(how), x, k) {
         return l.above;
     }
     let q = relation::reach_of(&lines::line_of(how, x, k));
@@ -110,15 +103,7 @@ pub fn fill(w: Wanted, r: &[u8], x: &[u8], places: &mut [u8])
     let how = w.how;
     let mut o = [0u32; lines::MOST_LINES];
     let mut t = [0u32; lines::MOST_LINES];
-    let m = order::in_order(
-        Keyed {
-            how,
-            by: By::Receivers,
-        },
-        r,
-        &mut o,
-        &mut t,
-    );
+    let m = order::in_order(Keyed::receivers(how), r, &mut o, &mut t);
     mark_killed(how, r, &o[..m], &mut t);
     put_all(w, r, &o[..m], &t, x, places);
 }

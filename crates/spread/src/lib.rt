@@ -12,7 +12,7 @@ ghost use Rattle.receivers.specs.Rows.{Rows};
 ghost use Rattle.spread.specs.Asked.{Asked, Accepted};
 ghost use Rattle.spread.specs.Taken.{lines_by, components_by, filled_lines, filled_components};
 
-use keys::{By, Keyed};
+use keys::Keyed;
 use lines::Reading;
 use place::Places;
 use records::{cover, relation};
@@ -40,15 +40,7 @@ fn in_order(how: Reading, r: &[u8], o: &mut [u32]) -> usize
     ensures order { (result ≤ length o.new) × Rows (sheet_of how r.now) (take result o.new) }
 {
     let mut p = [0u32; lines::MOST_LINES];
-    order::in_order(
-        Keyed {
-            how,
-            by: By::Receivers,
-        },
-        r,
-        o,
-        &mut p,
-    )
+    order::in_order(Keyed::receivers(how), r, o, &mut p)
 }
 
 // Puts the R lines and the components of the channels of relation line k.

@@ -8,7 +8,7 @@ ghost use Rattle.form.specs.Known.{Known};
 ghost use Rattle.keys.specs.Held.{RelationLine};
 ghost use Rattle.traces.specs.Steps.{ReceiverLine};
 
-use keys::{By, Keyed};
+use keys::Keyed;
 use lines::Reading;
 use records::{cover, relation};
 
@@ -19,10 +19,7 @@ pub fn reaches(how: Reading, r: &[u8], i: usize, x: &[u8], k: usize, component: 
 {
     let number = relation::number_at(&lines::line_of(how, r, i), 18, 25);
     let q = relation::reach_of(&lines::line_of(how, x, k));
-    let z = Keyed {
-        how,
-        by: By::Receivers,
-    };
+    let z = Keyed::receivers(how);
     let within = 1 <= component && component <= u64::from(q.step);
     within
         && cover::covers(q, u64::from(number))

@@ -17,7 +17,7 @@ ghost use Rattle.traces.specs.Paper.{paper, paper_channel, paper_spread};
 ghost use Rattle.traces.specs.Steps.{traced_on, ReceiverLine};
 ghost use Rattle.traces.specs.Calls.{lookup_on, way_back_on, table_on, Spreads, SpreadTable, SpreadBytes};
 
-use keys::{By, Keyed};
+use keys::Keyed;
 use lines::{Reading, Refusal};
 use records::{cover, relation};
 use rows::Wanted;
@@ -129,14 +129,7 @@ fn found_back(
         return None;
     }
     let i = (r_line - 1) as usize;
-    if !keys::takes(
-        Keyed {
-            how,
-            by: By::Receivers,
-        },
-        r,
-        i,
-    ) {
+    if !keys::takes(Keyed::receivers(how), r, i) {
         return None;
     }
     let k = search::first(how, r, x, tape, record, Sought::Component(i, component))?;

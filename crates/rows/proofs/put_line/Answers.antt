@@ -14,7 +14,7 @@ use Rattle.rows.proofs.Lined.{is_relation, next_same, next_is, stays, none_fits,
 use Rattle.rows.proofs.put_line.Goals as goal
 
 pub returns-then-not-takes : goal.returns-then-not-takes
-returns-then-not-takes c = let z = next_same _ _ c.requires.1.0 _ c.takes.ensures.value c.if-not-takes.true in
+returns-then-not-takes c = let z = next_same _ _ c.requires.1.0 _ (rw c.records.ensures.value at c.takes.ensures.value) c.if-not-takes.true in
     record {
       above = c.requires.1.1 ∙ sym z;
       written = λ d e. stays _ _ _ _ d _ e z;
@@ -22,7 +22,7 @@ returns-then-not-takes c = let z = next_same _ _ c.requires.1.0 _ c.takes.ensure
 
 pub overflow_add-next : goal.overflow_add-next
 overflow_add-next c = let inX : Sheet = let a = c.args in sheet_of a.w.how a.x.now in
-    let line : RelationLine inX c.args.l.k = is_relation _ _ c.requires.1.0 _ c.takes.ensures.value c.if-not-takes.false in
+    let line : RelationLine inX c.args.l.k = is_relation _ _ c.requires.1.0 _ (rw c.records.ensures.value at c.takes.ensures.value) c.if-not-takes.false in
     let coded : c.reach_of-q.result ≡ coded_reach (reach_at inX c.args.l.k) = let a = c.args in
     reads a.w.how a.x.now a.l.k _ _ c.line_of.ensures.value c.reach_of-q.ensures.value in
     let following : c.args.l.above + c.traces.result ≡ traces_above inX (suc c.args.l.k) = let a = c.args in
@@ -34,7 +34,7 @@ overflow_add-next c = let inX : Sheet = let a = c.args in sheet_of a.w.how a.x.n
 
 pub overflow_add-channel-then-place-end : goal.overflow_add-channel-then-place-end
 overflow_add-channel-then-place-end c = let inX : Sheet = let a = c.args in sheet_of a.w.how a.x.now in
-    let line : RelationLine inX c.args.l.k = is_relation _ _ c.requires.1.0 _ c.takes.ensures.value c.if-not-takes.false in
+    let line : RelationLine inX c.args.l.k = is_relation _ _ c.requires.1.0 _ (rw c.records.ensures.value at c.takes.ensures.value) c.if-not-takes.false in
     let coded : c.reach_of-q.result ≡ coded_reach (reach_at inX c.args.l.k) = let a = c.args in
     reads a.w.how a.x.now a.l.k _ _ c.line_of.ensures.value c.reach_of-q.ensures.value in
     let following : c.args.l.above + c.traces.result ≡ traces_above inX (suc c.args.l.k) = let a = c.args in
@@ -57,13 +57,13 @@ overflow_add-p c = let h = c.requires.1.0 in
 
 pub first_row-requires : goal.first_row-requires
 first_row-requires c = let inX : Sheet = let a = c.args in sheet_of a.w.how a.x.now in
-    let line : RelationLine inX c.args.l.k = is_relation _ _ c.requires.1.0 _ c.takes.ensures.value c.if-not-takes.false in
+    let line : RelationLine inX c.args.l.k = is_relation _ _ c.requires.1.0 _ (rw c.records.ensures.value at c.takes.ensures.value) c.if-not-takes.false in
     let p = c.requires.0 in
     ((known_receivers _ _ p.set, p.rows), (p.set.relations, line))
 
 pub put-requires : goal.put-requires
 put-requires c = let inX : Sheet = let a = c.args in sheet_of a.w.how a.x.now in
-    let line : RelationLine inX c.args.l.k = is_relation _ _ c.requires.1.0 _ c.takes.ensures.value c.if-not-takes.false in
+    let line : RelationLine inX c.args.l.k = is_relation _ _ c.requires.1.0 _ (rw c.records.ensures.value at c.takes.ensures.value) c.if-not-takes.false in
     let coded : c.reach_of-q.result ≡ coded_reach (reach_at inX c.args.l.k) = let a = c.args in
     reads a.w.how a.x.now a.l.k _ _ c.line_of.ensures.value c.reach_of-q.ensures.value in
     let following : c.args.l.above + c.traces.result ≡ traces_above inX (suc c.args.l.k) = let a = c.args in
@@ -73,7 +73,7 @@ put-requires c = let inX : Sheet = let a = c.args in sheet_of a.w.how a.x.now in
 
 pub returns-then-place-end : goal.returns-then-place-end
 returns-then-place-end c = let inX : Sheet = let a = c.args in sheet_of a.w.how a.x.now in
-    let line : RelationLine inX c.args.l.k = is_relation _ _ c.requires.1.0 _ c.takes.ensures.value c.if-not-takes.false in
+    let line : RelationLine inX c.args.l.k = is_relation _ _ c.requires.1.0 _ (rw c.records.ensures.value at c.takes.ensures.value) c.if-not-takes.false in
     let coded : c.reach_of-q.result ≡ coded_reach (reach_at inX c.args.l.k) = let a = c.args in
     reads a.w.how a.x.now a.l.k _ _ c.line_of.ensures.value c.reach_of-q.ensures.value in
     let following : c.args.l.above + c.traces.result ≡ traces_above inX (suc c.args.l.k) = let a = c.args in
@@ -89,7 +89,7 @@ returns-then-place-end c = let inX : Sheet = let a = c.args in sheet_of a.w.how 
 
 pub returns-else-place-end : goal.returns-else-place-end
 returns-else-place-end c = let inX : Sheet = let a = c.args in sheet_of a.w.how a.x.now in
-    let line : RelationLine inX c.args.l.k = is_relation _ _ c.requires.1.0 _ c.takes.ensures.value c.if-not-takes.false in
+    let line : RelationLine inX c.args.l.k = is_relation _ _ c.requires.1.0 _ (rw c.records.ensures.value at c.takes.ensures.value) c.if-not-takes.false in
     let coded : c.reach_of-q.result ≡ coded_reach (reach_at inX c.args.l.k) = let a = c.args in
     reads a.w.how a.x.now a.l.k _ _ c.line_of.ensures.value c.reach_of-q.ensures.value in
     let following : c.args.l.above + c.traces.result ≡ traces_above inX (suc c.args.l.k) = let a = c.args in

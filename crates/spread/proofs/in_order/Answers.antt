@@ -6,7 +6,7 @@ use Rattle.spread.proofs.in_order.Goals as goal
 
 pub in_order-requires : goal.in_order-requires
 in_order-requires c = let a = c.args in
-    sortable (sheet_of a.how a.r.now) a.o.now (replicate 9999 0) c.requires.0 c.requires.1 all_room
+    rw c.receivers.ensures.value (sortable (sheet_of a.how a.r.now) a.o.now (replicate 9999 0) c.requires.0 c.requires.1 all_room)
 
 pub returns : goal.returns
-returns c = record { order = rows_first _ _ _ c.in_order.ensures.order }
+returns c = record { order = rows_first _ _ _ (rw c.receivers.ensures.value at c.in_order.ensures.order) }

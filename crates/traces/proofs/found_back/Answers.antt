@@ -21,7 +21,7 @@ returns-then-not-takes c = record {
       let n = c.line_count.ensures.value in
       let l = c.if-line_count-r_line.false in
       no_point (sheet_of a.how a.r.now) (sheet_of a.how a.x.now) a.tape.now a.«record» a.r_line a.component p.1.1
-      (omega arith) _ refl _ c.takes.ensures.value c.if-not-takes.true;
+      (omega arith) _ refl _ (rw c.receivers.ensures.value at c.takes.ensures.value) c.if-not-takes.true;
 }
 
 pub first-requires : goal.first-requires
@@ -30,7 +30,7 @@ first-requires c = let a = c.args in
     let n = c.line_count.ensures.value in
     let l = c.if-line_count-r_line.false in (
       receiver_line_lem (sheet_of a.how a.r.now) (sheet_of a.how a.x.now) a.tape.now a.«record» a.r_line a.component p.1.1
-          (omega arith) _ refl _ c.takes.ensures.value c.if-not-takes.false p.0.receivers,
+          (omega arith) _ refl _ (rw c.receivers.ensures.value at c.takes.ensures.value) c.if-not-takes.false p.0.receivers,
       (p.0.relations, p.1.0),
     )
 
@@ -42,7 +42,7 @@ returns-in_err-k c = record {
       let l = c.if-line_count-r_line.false in
       rw c.from_residual.ensures
       (none_reaches (sheet_of a.how a.r.now) (sheet_of a.how a.x.now) a.tape.now a.«record» a.r_line a.component p.1.1
-      (omega arith) _ refl _ c.takes.ensures.value c.if-not-takes.false c.in_err-k.ensures.value);
+      (omega arith) _ refl _ (rw c.receivers.ensures.value at c.takes.ensures.value) c.if-not-takes.false c.in_err-k.ensures.value);
 }
 
 pub returned-requires : goal.returned-requires
@@ -55,7 +55,7 @@ returned-requires c = let a = c.args in
     let f = in_found _ _ _ c.in_ok-k.ensures.value in (
       (
         p.0,
-        receiver_line_lem R X a.tape.now a.«record» a.r_line a.component p.1.1 (omega arith) _ refl _ c.takes.ensures.value
+        receiver_line_lem R X a.tape.now a.«record» a.r_line a.component p.1.1 (omega arith) _ refl _ (rw c.receivers.ensures.value at c.takes.ensures.value)
             c.if-not-takes.false p.0.receivers,
       ),
       found_line X a.tape.now a.«record» _ _ f.0 f.1,
@@ -70,5 +70,5 @@ returns c = record {
       let f = in_found _ _ _ c.in_ok-k.ensures.value in
       c.returned.ensures.answer
       ∙ one_reaches (sheet_of a.how a.r.now) (sheet_of a.how a.x.now) a.tape.now a.«record» a.r_line a.component p.1.1
-      (omega arith) _ refl _ c.takes.ensures.value c.if-not-takes.false _ f.0 f.1;
+      (omega arith) _ refl _ (rw c.receivers.ensures.value at c.takes.ensures.value) c.if-not-takes.false _ f.0 f.1;
 }

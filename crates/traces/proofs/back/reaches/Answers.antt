@@ -35,7 +35,7 @@ returns-then-covers c = record {
         | else-within w ↦ and_else _ _ _ w.if-within.false w.value-is
       ] in
       in_reach (sheet_of a.how a.r.now) X a.i a.k a.component p.0 p.1.0 (rank_same a.how a.r.now a.x.now) p.1.1 _ en _ _ two three
-      c.if-covers.true _ (key_read a.how a.x.now a.k _ _ c.receiver_key.ensures.value) _ c.is_at.ensures.value;
+      c.if-covers.true _ (key_read a.how a.x.now a.k _ _ c.receiver_key.ensures.value) _ (rw c.receivers-z.ensures.value at c.is_at.ensures.value);
 }
 
 pub returns-else-covers : goal.returns-else-covers

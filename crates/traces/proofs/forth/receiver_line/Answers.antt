@@ -24,13 +24,13 @@ returns-then-holds c = record {
       let p = c.requires in
       let n = c.line_count-count.ensures.value in
       let y = c.loop-j-test.true in
-      sym (least_stop _ _ R.count (omega arith) c.loop-j.invariant (sym c.holds.ensures.value ∙ c.if-holds.true))
+      sym (least_stop _ _ R.count (omega arith) c.loop-j.invariant (sym (rw c.receivers-z.ensures.value at c.holds.ensures.value) ∙ c.if-holds.true))
       ∙ line_of_key R (sheet_of a.how a.x.now) p.0 p.1.0 (rank_same a.how a.r.now a.x.now) a.k p.1.1 a.n c.ranges.n.fits _
       (key_read a.how a.x.now a.k a.n _ c.receiver_key-y.ensures.value);
 }
 
 pub loop-j-preserved : goal.loop-j-preserved
-loop-j-preserved c = least_more _ _ c.loop-j.invariant (sym c.holds.ensures.value ∙ c.if-holds.false)
+loop-j-preserved c = least_more _ _ c.loop-j.invariant (sym (rw c.receivers-z.ensures.value at c.holds.ensures.value) ∙ c.if-holds.false)
 
 pub returns : goal.returns
 returns c = record {

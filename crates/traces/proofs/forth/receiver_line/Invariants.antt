@@ -7,4 +7,4 @@ use Rattle.keys.specs.declared.By.TheVariants.{Receivers}
 use Rattle.traces.proofs.forth.receiver_line.Given as goal
 
 abbrev pub invariant-loop-j : goal.invariant-loop-j
-invariant-loop-j l = least l.j (holds_key Receivers (sheet_of l.z.how l.r) l.y) ≡ l.j
+invariant-loop-j l = least l.j (holds_key Receivers (sheet_of l.fn.how l.r) l.y) ≡ l.j
