@@ -43,6 +43,3 @@ adds_part a p n k h e =
 -- the first m places hold what was added
 pub starts : {a t b : List ℕ} {m : ℕ} → Adds a 0 t b m → (take m b ≡ t) × (m ≡ length t)
 starts {a} {t} {b} {m} e = (e.front, e.ends ∙ zero-add (length t))
-
-pub starts_within : {a t b : List ℕ} {m : ℕ} → Adds a 0 t b m → m ≤ length b
-starts_within {a} {t} {b} {m} e = let z : length (take m b) ≡ length t = ap length e.front in omega (arith, length-take m b, e.ends)

@@ -1,6 +1,7 @@
 #![tactic(auto)]
 // The program's line: what it says of a set or of a file that cannot be used, as bytes in the first places of a lent buffer. Where the
-// line has no room nothing is written; the answer is its length in either case. A line is made in an array of the call, then put over.
+// line has no room nothing is written; the answer is its length in either case. There is no heap here, so a line is made in an array of
+// the call that holds the longest, then put over.
 ghost use Rattle.std.specs.Prelude.{◌≡◌, ◌≤◌, ◌∷◌, [], ◌++◌, length};
 ghost use Rattle.rules.specs.Text.{bytes};
 ghost use Rattle.rules.specs.Lines.{letter as letter_of};
@@ -44,6 +45,7 @@ fn refused(w: Refusal, line: &mut [u8; 120]) -> usize
 }
 
 // The line of an answer to the cross-check.
+#[tactic(auto, unfolding(crate::specs::Words::line))]
 fn spell(a: Result<Counts, Refusal>, line: &mut [u8; 120]) -> usize
     ensures added { Adds line.old 0 (line_of (paper a)) line.new result }
     ensures small { result ≤ 114 }
@@ -80,6 +82,7 @@ fn of_file(word: &[u8], i: u8, out: &mut [u8]) -> usize
 }
 
 // Says that file i is missing.
+#[tactic(auto, unfolding(crate::specs::Words::no_file, rules::specs::Text::bytes))]
 pub fn no_file(i: u8, out: &mut [u8]) -> usize
     ensures value { result ≡ length (no_file i) }
     ensures written { out.new ≡ over (no_file i) out.old }
@@ -88,6 +91,7 @@ pub fn no_file(i: u8, out: &mut [u8]) -> usize
 }
 
 // Says that file i is too long.
+#[tactic(auto, unfolding(crate::specs::Words::too_long, rules::specs::Text::bytes))]
 pub fn too_long(i: u8, out: &mut [u8]) -> usize
     ensures value { result ≡ length (too_long i) }
     ensures written { out.new ≡ over (too_long i) out.old }
