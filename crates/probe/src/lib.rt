@@ -1,6 +1,6 @@
 #![tactic(auto)]
 // Calls for the tests of the hosts: what a line shows, what a line or a file is refused for, and the values of a line. They only carry
-// over to numbers and slices what the readers answer.
+// over to numbers and slices what the readers answer: a host of C gets no Result.
 ghost use Rattle.std.specs.Prelude.{◌≡◌, length};
 ghost use Rattle.rules.specs.Plan.{run};
 ghost use Rattle.rules.specs.Layout.{sps93};

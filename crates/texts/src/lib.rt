@@ -32,7 +32,7 @@ pub fn add(p: &[u8], out: &mut [u8], n: usize) -> usize
     n + p.len()
 }
 
-// Adds the digits of v: those before the last, then the last.
+// Adds the digits of v: those before the last, then the last. It calls itself, since a loop would meet the last digit first.
 pub fn digits(v: u64, out: &mut [u8], n: usize) -> usize
     requires { n + length (decimal_of v) ≤ length out.old }
     ensures added { Adds out.old n (decimal_of v) out.new result }
