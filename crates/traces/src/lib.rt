@@ -61,19 +61,12 @@ fn traced(how: Reading, r: &[u8], x: &[u8], k: usize, channel: u64) -> Reached
 }
 
 // What a channel of that tape and record leads to in an accepted set.
-fn found(
-    how: Reading,
-    r: &[u8],
-    x: &[u8],
-    tape: &[u8],
-    record: u64,
-    channel: u64,
-) -> Option<Reached>
-    requires { Accepted (sheet_of how r.now) (sheet_of how x.now) × Asked tape.now «record» }
-    ensures answer { paper (Ok result) ≡ found_of (sheet_of how r.now) (sheet_of how x.now) tape.now «record» channel }
+fn found(q: Question, r: &[u8], x: &[u8], tape: &[u8], channel: u64) -> Option<Reached>
+    requires { Accepted (sheet_of q.how r.now) (sheet_of q.how x.now) × Asked tape.now q.«record» }
+    ensures answer { paper (Ok result) ≡ found_of (sheet_of q.how r.now) (sheet_of q.how x.now) tape.now q.«record» channel }
 {
-    let k = search::first(how, r, x, tape, record, Sought::Channel(channel))?;
-    Some(traced(how, r, x, k, channel))
+    let k = search::first(q, r, x, tape, Sought::Channel(channel))?;
+    Some(traced(q.how, r, x, k, channel))
 }
 
 // The lookup: from tape, record and channel to the receiver's line and component; none where there is no trace.
@@ -95,7 +88,7 @@ pub fn trace(
         return Err(lines::unplaced(20));
     }
     sets::cross(q.how, r, s, x)?;
-    Ok(found(q.how, r, x, tape, q.record, channel))
+    Ok(found(q, r, x, tape, channel))
 }
 
 // The channel of relation line k for a component of the receiver in line i of R, from 0, which it reaches.
@@ -113,27 +106,26 @@ fn returned(how: Reading, r: &[u8], i: usize, x: &[u8], k: usize, component: u64
 
 // The channel of that tape and record for a component of an R line, counted from 1, in an accepted set.
 fn found_back(
-    how: Reading,
+    q: Question,
     r: &[u8],
     x: &[u8],
     tape: &[u8],
-    record: u64,
     r_line: u64,
     component: u64,
 ) -> Option<u32>
-    requires { Accepted (sheet_of how r.now) (sheet_of how x.now) × (Asked tape.now «record» × (1 ≤ r_line)) }
+    requires { Accepted (sheet_of q.how r.now) (sheet_of q.how x.now) × (Asked tape.now q.«record» × (1 ≤ r_line)) }
     ensures answer { paper_channel (Ok result)
-        ≡ found_back (sheet_of how r.now) (sheet_of how x.now) tape.now «record» r_line component }
+        ≡ found_back (sheet_of q.how r.now) (sheet_of q.how x.now) tape.now q.«record» r_line component }
 {
-    if (lines::line_count(how, r) as u64) < r_line {
+    if (lines::line_count(q.how, r) as u64) < r_line {
         return None;
     }
     let i = (r_line - 1) as usize;
-    if !keys::takes(Keyed::receivers(how), r, i) {
+    if !keys::takes(Keyed::receivers(q.how), r, i) {
         return None;
     }
-    let k = search::first(how, r, x, tape, record, Sought::Component(i, component))?;
-    Some(returned(how, r, i, x, k, component))
+    let k = search::first(q, r, x, tape, Sought::Component(i, component))?;
+    Some(returned(q.how, r, i, x, k, component))
 }
 
 // The way back: from tape, record, R line and component to the channel; none where there is no trace.
@@ -156,7 +148,7 @@ pub fn channel(
         return Err(lines::unplaced(20));
     }
     sets::cross(q.how, r, s, x)?;
-    Ok(found_back(q.how, r, x, tape, q.record, r_line, component))
+    Ok(found_back(q, r, x, tape, r_line, component))
 }
 
 // What the spread table is answered for slices of m and n places.

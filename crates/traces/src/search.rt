@@ -7,7 +7,7 @@ ghost use Rattle.spread.specs.Asked.{Asked};
 ghost use Rattle.shots.specs.Places.{line_in};
 ghost use Rattle.traces.specs.Steps.{passes, finds, SoughtIn};
 
-use crate::back;
+use crate::{Question, back};
 use lines::Reading;
 use records::{cover, relation};
 use spread::wanted;
@@ -34,21 +34,14 @@ fn is_here(how: Reading, r: &[u8], x: &[u8], k: usize, w: Wanted, what: Sought) 
 }
 
 // The first such line.
-pub fn first(
-    how: Reading,
-    r: &[u8],
-    x: &[u8],
-    tape: &[u8],
-    record: u64,
-    what: Sought,
-) -> Option<usize>
-    requires { SoughtIn (sheet_of how r.now) what × (Known 3 (sheet_of how x.now) × Asked tape.now «record») }
-    ensures value { result
-        ≡ line_in (sheet_of how x.now).count (search (reaches_of (sheet_of how x.now)) tape.now «record» (finds (sheet_of how r.now) what)) }
+pub fn first(q: Question, r: &[u8], x: &[u8], tape: &[u8], what: Sought) -> Option<usize>
+    requires { SoughtIn (sheet_of q.how r.now) what × (Known 3 (sheet_of q.how x.now) × Asked tape.now q.«record») }
+    ensures value { result ≡ line_in (sheet_of q.how x.now).count
+        (search (reaches_of (sheet_of q.how x.now)) tape.now q.«record» (finds (sheet_of q.how r.now) what)) }
 {
-    let w = wanted::coded(tape, record);
-    for k in 0..lines::line_count(how, x) {
-        if is_here(how, r, x, k, w, what) {
+    let w = wanted::coded(tape, q.record);
+    for k in 0..lines::line_count(q.how, x) {
+        if is_here(q.how, r, x, k, w, what) {
             return Some(k);
         }
     }

@@ -13,17 +13,17 @@ pub returns-in_err-k : goal.returns-in_err-k
 returns-in_err-k c = record {
   answer = let a = c.args in
       rw c.from_residual.ensures
-      (none_carries (sheet_of a.how a.r.now) (sheet_of a.how a.x.now) a.tape.now a.«record» a.channel c.in_err-k.ensures.value);
+      (none_carries (sheet_of a.q.how a.r.now) (sheet_of a.q.how a.x.now) a.tape.now a.q.«record» a.channel c.in_err-k.ensures.value);
 }
 
 pub traced-requires : goal.traced-requires
 traced-requires c = let a = c.args in
     let f = in_found _ _ _ c.in_ok-k.ensures.value in
-    (c.requires.0, found_line (sheet_of a.how a.x.now) a.tape.now a.«record» _ _ f.0 f.1)
+    (c.requires.0, found_line (sheet_of a.q.how a.x.now) a.tape.now a.q.«record» _ _ f.0 f.1)
 
 pub returns : goal.returns
 returns c = record {
   answer = let a = c.args in
       let f = in_found _ _ _ c.in_ok-k.ensures.value in
-      c.traced.ensures.answer ∙ one_carries (sheet_of a.how a.r.now) (sheet_of a.how a.x.now) a.tape.now a.«record» a.channel _ f.0 f.1;
+      c.traced.ensures.answer ∙ one_carries (sheet_of a.q.how a.r.now) (sheet_of a.q.how a.x.now) a.tape.now a.q.«record» a.channel _ f.0 f.1;
 }

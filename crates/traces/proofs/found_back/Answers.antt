@@ -11,7 +11,7 @@ pub returns-then-line_count-r_line : goal.returns-then-line_count-r_line
 returns-then-line_count-r_line c = record {
   answer = let a = c.args in
       let n = c.line_count.ensures.value in
-      beyond_file (sheet_of a.how a.r.now) (sheet_of a.how a.x.now) a.tape.now a.«record» a.r_line a.component (omega arith);
+      beyond_file (sheet_of a.q.how a.r.now) (sheet_of a.q.how a.x.now) a.tape.now a.q.«record» a.r_line a.component (omega arith);
 }
 
 pub returns-then-not-takes : goal.returns-then-not-takes
@@ -20,7 +20,7 @@ returns-then-not-takes c = record {
       let p = c.requires in
       let n = c.line_count.ensures.value in
       let l = c.if-line_count-r_line.false in
-      no_point (sheet_of a.how a.r.now) (sheet_of a.how a.x.now) a.tape.now a.«record» a.r_line a.component p.1.1
+      no_point (sheet_of a.q.how a.r.now) (sheet_of a.q.how a.x.now) a.tape.now a.q.«record» a.r_line a.component p.1.1
       (omega arith) _ refl _ (rw c.receivers.ensures.value at c.takes.ensures.value) c.if-not-takes.true;
 }
 
@@ -29,7 +29,7 @@ first-requires c = let a = c.args in
     let p = c.requires in
     let n = c.line_count.ensures.value in
     let l = c.if-line_count-r_line.false in (
-      receiver_line_lem (sheet_of a.how a.r.now) (sheet_of a.how a.x.now) a.tape.now a.«record» a.r_line a.component p.1.1
+      receiver_line_lem (sheet_of a.q.how a.r.now) (sheet_of a.q.how a.x.now) a.tape.now a.q.«record» a.r_line a.component p.1.1
           (omega arith) _ refl _ (rw c.receivers.ensures.value at c.takes.ensures.value) c.if-not-takes.false p.0.receivers,
       (p.0.relations, p.1.0),
     )
@@ -41,24 +41,24 @@ returns-in_err-k c = record {
       let n = c.line_count.ensures.value in
       let l = c.if-line_count-r_line.false in
       rw c.from_residual.ensures
-      (none_reaches (sheet_of a.how a.r.now) (sheet_of a.how a.x.now) a.tape.now a.«record» a.r_line a.component p.1.1
+      (none_reaches (sheet_of a.q.how a.r.now) (sheet_of a.q.how a.x.now) a.tape.now a.q.«record» a.r_line a.component p.1.1
       (omega arith) _ refl _ (rw c.receivers.ensures.value at c.takes.ensures.value) c.if-not-takes.false c.in_err-k.ensures.value);
 }
 
 pub returned-requires : goal.returned-requires
 returned-requires c = let a = c.args in
-    let R = sheet_of a.how a.r.now in
-    let X = sheet_of a.how a.x.now in
+    let R = sheet_of a.q.how a.r.now in
+    let X = sheet_of a.q.how a.x.now in
     let p = c.requires in
     let n = c.line_count.ensures.value in
     let l = c.if-line_count-r_line.false in
     let f = in_found _ _ _ c.in_ok-k.ensures.value in (
       (
         p.0,
-        receiver_line_lem R X a.tape.now a.«record» a.r_line a.component p.1.1 (omega arith) _ refl _ (rw c.receivers.ensures.value at c.takes.ensures.value)
+        receiver_line_lem R X a.tape.now a.q.«record» a.r_line a.component p.1.1 (omega arith) _ refl _ (rw c.receivers.ensures.value at c.takes.ensures.value)
             c.if-not-takes.false p.0.receivers,
       ),
-      found_line X a.tape.now a.«record» _ _ f.0 f.1,
+      found_line X a.tape.now a.q.«record» _ _ f.0 f.1,
     )
 
 pub returns : goal.returns
@@ -69,6 +69,6 @@ returns c = record {
       let l = c.if-line_count-r_line.false in
       let f = in_found _ _ _ c.in_ok-k.ensures.value in
       c.returned.ensures.answer
-      ∙ one_reaches (sheet_of a.how a.r.now) (sheet_of a.how a.x.now) a.tape.now a.«record» a.r_line a.component p.1.1
+      ∙ one_reaches (sheet_of a.q.how a.r.now) (sheet_of a.q.how a.x.now) a.tape.now a.q.«record» a.r_line a.component p.1.1
       (omega arith) _ refl _ (rw c.receivers.ensures.value at c.takes.ensures.value) c.if-not-takes.false _ f.0 f.1;
 }

@@ -22,13 +22,13 @@ is_here-requires c = let p = c.requires in
 pub returns-then-is_here : goal.returns-then-is_here
 returns-then-is_here c = record {
   value = let a = c.args in
-      let X = sheet_of a.how a.x.now in
+      let X = sheet_of a.q.how a.x.now in
       let p = c.requires in
       let at = c.loop-k in
       let n = c.line_count-k-end.ensures.value in
       found_in _ _ at.k
       (sym (least_stop _ _ X.count (omega arith) at.invariant (sym c.is_here.ensures.value ∙ c.if-is_here.true))
-      ∙ walk_of X p.1.0 a.tape.now a.«record» p.1.1 _ c.coded-w.ensures.value (finds (sheet_of a.how a.r.now) a.what)) (omega arith);
+      ∙ walk_of X p.1.0 a.tape.now a.q.«record» p.1.1 _ c.coded-w.ensures.value (finds (sheet_of a.q.how a.r.now) a.what)) (omega arith);
 }
 
 pub loop-k-preserved : goal.loop-k-preserved
@@ -37,13 +37,13 @@ loop-k-preserved c = least_more _ _ c.loop-k.invariant (sym c.is_here.ensures.va
 pub returns : goal.returns
 returns c = record {
   value = let a = c.args in
-      let X = sheet_of a.how a.x.now in
+      let X = sheet_of a.q.how a.x.now in
       let p = c.requires in
       let at = c.loop-k in
       let n = c.line_count-k-end.ensures.value in
-      let f = finds (sheet_of a.how a.r.now) a.what in
+      let f = finds (sheet_of a.q.how a.r.now) a.what in
       let z : at.k ≡ X.count = omega arith in
       none_in _ _
       (sym z ∙ sym at.invariant ∙ ap (λ (i : ℕ). least i (passes X c.coded-w.result f)) z
-      ∙ walk_of X p.1.0 a.tape.now a.«record» p.1.1 _ c.coded-w.ensures.value f);
+      ∙ walk_of X p.1.0 a.tape.now a.q.«record» p.1.1 _ c.coded-w.ensures.value f);
 }
