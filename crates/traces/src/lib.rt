@@ -81,10 +81,7 @@ pub fn trace(
     ensures answer { paper result
         ≡ lookup_on q.how r.now s.now x.now tape.now q.«record» channel }
 {
-    if !asked::record(tape, q.record) {
-        return Err(lines::unplaced(20));
-    }
-    if !asked::channel(channel) {
+    if !asked::record(tape, q.record) || !asked::channel(channel) {
         return Err(lines::unplaced(20));
     }
     sets::cross(q.how, r, s, x)?;
@@ -141,10 +138,7 @@ pub fn channel(
     ensures answer { paper_channel result
         ≡ way_back_on q.how r.now s.now x.now tape.now q.«record» r_line component }
 {
-    if !asked::record(tape, q.record) {
-        return Err(lines::unplaced(20));
-    }
-    if !asked::receiver(r_line, component) {
+    if !asked::record(tape, q.record) || !asked::receiver(r_line, component) {
         return Err(lines::unplaced(20));
     }
     sets::cross(q.how, r, s, x)?;

@@ -6,6 +6,7 @@ use Rattle.rules.specs.Lookup.{way_back}
 use Rattle.sets.proofs.Verdicts.{set_accepted, set_refused}
 use Rattle.traces.proofs.Ranges.{line_asked_lem}
 use Rattle.traces.proofs.Sets.{in_range, in_set, not_asked, out_of_range, own_refusal}
+use Rattle.traces.proofs.channel.Goals.{then-not-record-via-then-not-record, then-not-record-via-else-not-record+then-not-receiver}
 use Rattle.traces.proofs.channel.Goals as goal
 
 pub returns-then-not-record : goal.returns-then-not-record
@@ -13,16 +14,13 @@ unfolding way_back
 returns-then-not-record c = record {
   answer = let a = c.args in
       ap refusal c.unplaced.ensures.value
-      ∙ not_asked a.q.how a.r.now a.s.now a.x.now a.tape.now a.q.«record» _ _ _ c.«record».ensures.value c.if-not-record.true;
-}
-
-pub returns-then-not-receiver : goal.returns-then-not-receiver
-unfolding way_back
-returns-then-not-receiver c = record {
-  answer = let a = c.args in
-      ap refusal c.unplaced-then-not-receiver.ensures.value
-      ∙ out_of_range a.q.how a.r.now a.s.now a.x.now a.tape.now a.q.«record» _ _ _ c.«record».ensures.value c.if-not-record.false _
-      c.receiver.ensures.value c.if-not-receiver.true;
+      ∙ elim c.then-not-record.branch [
+        | then-not-record-via-then-not-record w ↦
+            not_asked a.q.how a.r.now a.s.now a.x.now a.tape.now a.q.«record» _ _ _ c.«record».ensures.value w.if-not-record.true
+        | then-not-record-via-else-not-record+then-not-receiver w ↦
+            out_of_range a.q.how a.r.now a.s.now a.x.now a.tape.now a.q.«record» _ _ _ c.«record».ensures.value w.if-not-record.false _
+            w.receiver.ensures.value w.if-not-receiver.true
+      ];
 }
 
 pub returns-in_err-cross : goal.returns-in_err-cross

@@ -5,6 +5,7 @@ use Rattle.rules.specs.Check.{refusal}
 use Rattle.rules.specs.Lookup.{lookup}
 use Rattle.sets.proofs.Verdicts.{set_accepted, set_refused}
 use Rattle.traces.proofs.Sets.{channel_on, in_range, in_set, not_asked, out_of_range, own_refusal}
+use Rattle.traces.proofs.trace.Goals.{then-not-record-via-then-not-record, then-not-record-via-else-not-record+then-not-channel}
 use Rattle.traces.proofs.trace.Goals as goal
 
 pub returns-then-not-record : goal.returns-then-not-record
@@ -12,16 +13,13 @@ unfolding lookup
 returns-then-not-record c = record {
   answer = let a = c.args in
       ap refusal c.unplaced.ensures.value
-      ∙ not_asked a.q.how a.r.now a.s.now a.x.now a.tape.now a.q.«record» _ _ _ c.«record».ensures.value c.if-not-record.true;
-}
-
-pub returns-then-not-channel : goal.returns-then-not-channel
-unfolding lookup
-returns-then-not-channel c = record {
-  answer = let a = c.args in
-      ap refusal c.unplaced-then-not-channel.ensures.value
-      ∙ out_of_range a.q.how a.r.now a.s.now a.x.now a.tape.now a.q.«record» _ _ _ c.«record».ensures.value c.if-not-record.false _
-      (channel_on a.q.how a.x.now a.channel _ c.channel.ensures.value) c.if-not-channel.true;
+      ∙ elim c.then-not-record.branch [
+        | then-not-record-via-then-not-record w ↦
+            not_asked a.q.how a.r.now a.s.now a.x.now a.tape.now a.q.«record» _ _ _ c.«record».ensures.value w.if-not-record.true
+        | then-not-record-via-else-not-record+then-not-channel w ↦
+            out_of_range a.q.how a.r.now a.s.now a.x.now a.tape.now a.q.«record» _ _ _ c.«record».ensures.value w.if-not-record.false _
+            (channel_on a.q.how a.x.now a.channel _ w.channel.ensures.value) w.if-not-channel.true
+      ];
 }
 
 pub returns-in_err-cross : goal.returns-in_err-cross
