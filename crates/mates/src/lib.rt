@@ -68,11 +68,12 @@ pub fn record_fits(how: Reading, x: &[u8], k: usize, apart: usize, on: bool) -> 
     requires { Known 3 (sheet_of how x.now) × (RelationLine (sheet_of how x.now) k × Standing (sheet_of how x.now) k apart on) }
     ensures verdict { paper result ≡ run (rule16 (sheet_of how x.now) k before rule17 (sheet_of how x.now) k) }
 {
-    if !on && k != apart {
+    if on {
+        if same_shot(how, x, k, k - 1) {
+            return rises(how, x, k);
+        }
+    } else if k != apart {
         return Ok(());
-    }
-    if on && same_shot(how, x, k, k - 1) {
-        return rises(how, x, k);
     }
     lines::at_line(16, 3, k, 2)
 }

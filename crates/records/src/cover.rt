@@ -15,7 +15,7 @@ use crate::relation::Reach;
 pub fn traces(q: Reach) -> u64
     ensures value { (p : PaperReach) → q ≡ coded_reach p → result ≡ traces_of p }
 {
-    (q.upto as u64 + 1).saturating_sub(q.from as u64)
+    (u64::from(q.upto) + 1).saturating_sub(u64::from(q.from))
 }
 
 // Channel c is one of them.
@@ -23,7 +23,7 @@ pub fn traces(q: Reach) -> u64
 pub fn carries(q: Reach, c: u64) -> bool
     ensures value { (p : PaperReach) → q ≡ coded_reach p → result ≡ carries_of p c }
 {
-    q.from as u64 <= c && c <= q.upto as u64
+    u64::from(q.from) <= c && c <= u64::from(q.upto)
 }
 
 // The lowest receiver number.
@@ -31,7 +31,7 @@ pub fn lowest(q: Reach) -> u64
     ensures value { (p : PaperReach) → q ≡ coded_reach p → result ≡ lowest_of p }
     ensures small { result < 4294967296 }
 {
-    q.from_receiver.min(q.to_receiver) as u64
+    u64::from(q.from_receiver.min(q.to_receiver))
 }
 
 // The highest receiver number.
@@ -39,7 +39,7 @@ pub fn highest(q: Reach) -> u64
     ensures value { (p : PaperReach) → q ≡ coded_reach p → result ≡ highest_of p }
     ensures small { result < 4294967296 }
 {
-    q.from_receiver.max(q.to_receiver) as u64
+    u64::from(q.from_receiver.max(q.to_receiver))
 }
 
 // How many receivers.
@@ -57,9 +57,9 @@ pub fn receiver_on(q: Reach, d: u64) -> u64
     ensures value { (p : PaperReach) → q ≡ coded_reach p → result ≡ receiver_on p d }
 {
     if q.from_receiver <= q.to_receiver {
-        q.from_receiver as u64 + d
+        u64::from(q.from_receiver) + d
     } else {
-        (q.from_receiver as u64).saturating_sub(d)
+        u64::from(q.from_receiver).saturating_sub(d)
     }
 }
 
@@ -71,9 +71,9 @@ fn on_to(q: Reach, n: u64) -> u64
     ensures small { result < 4294967296 }
 {
     if q.from_receiver <= q.to_receiver {
-        n.saturating_sub(q.from_receiver as u64)
+        n.saturating_sub(u64::from(q.from_receiver))
     } else {
-        (q.from_receiver as u64).saturating_sub(n)
+        u64::from(q.from_receiver).saturating_sub(n)
     }
 }
 
@@ -91,7 +91,7 @@ pub fn leads(q: Reach, c: u64) -> u64
     requires { (q.from ≤ c) × ((c < 4294967296) × (1 ≤ q.step)) }
     ensures value { (p : PaperReach) → q ≡ coded_reach p → result ≡ leads_of p c }
 {
-    receiver_on(q, (c - q.from as u64) / q.step as u64)
+    receiver_on(q, (c - u64::from(q.from)) / u64::from(q.step))
 }
 
 // The component that it leads to.
@@ -100,7 +100,7 @@ pub fn component(q: Reach, c: u64) -> u64
     requires { (q.from ≤ c) × ((c < 4294967296) × (1 ≤ q.step)) }
     ensures value { (p : PaperReach) → q ≡ coded_reach p → result ≡ component_of p c }
 {
-    (c - q.from as u64) % q.step as u64 + 1
+    (c - u64::from(q.from)) % u64::from(q.step) + 1
 }
 
 // The channel of receiver number n and component m.
@@ -109,7 +109,7 @@ pub fn channel_of(q: Reach, n: u64, m: u64) -> u64
     requires { (n < 4294967296) × ((q.step < 256) × ((1 ≤ m) × (m < 4294967296))) }
     ensures value { (p : PaperReach) → q ≡ coded_reach p → result ≡ channel_of p n m }
 {
-    q.from as u64 + on_to(q, n) * q.step as u64 + (m - 1)
+    u64::from(q.from) + on_to(q, n) * u64::from(q.step) + (m - 1)
 }
 
 // Each begins before the other ends.

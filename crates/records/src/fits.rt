@@ -66,24 +66,21 @@ pub fn rule5(l: &[u8; 80], i: u8, k: usize) -> Verdict
 {
     if is_header(l) {
         if straight::header_fits(l) {
-            Ok(())
-        } else {
-            fields_fit(l, Table::Header, false, i, k)
+            return Ok(());
         }
-    } else if i == 3 {
-        if straight::relation_fits(l) {
-            Ok(())
-        } else {
-            fields_fit(l, Table::Relation, false, i, k)
-        }
-    } else {
-        let marker = is_marker(l);
-        if straight::point_fits(l, i, marker) {
-            Ok(())
-        } else {
-            fields_fit(l, Table::Point(i), marker, i, k)
-        }
+        return fields_fit(l, Table::Header, false, i, k);
     }
+    if i == 3 {
+        if straight::relation_fits(l) {
+            return Ok(());
+        }
+        return fields_fit(l, Table::Relation, false, i, k);
+    }
+    let marker = is_marker(l);
+    if straight::point_fits(l, i, marker) {
+        return Ok(());
+    }
+    fields_fit(l, Table::Point(i), marker, i, k)
 }
 
 // 6 of the reach of line k of X, from 0.
@@ -96,7 +93,7 @@ pub fn counts(q: Reach, k: usize) -> Verdict
         return lines::at_line(6, 3, k, 39);
     }
     let n = cover::traces(q);
-    let i = q.step as u64;
+    let i = u64::from(q.step);
     if i == 0 || n % i != 0 {
         return lines::at_line(6, 3, k, 47);
     }

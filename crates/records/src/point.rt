@@ -1,4 +1,4 @@
-// The values of a point line. Decimals are signed whole tenths; what may be blank is None there.
+// The values of a point line. Decimals are signed whole tenths; a field that is blank is None.
 ghost use Rattle.std.specs.Prelude.{◌≡◌, ℕ, ◌+◌, ◌^◌, ◌≤◌, ◌<◌};
 ghost use Rattle.rules.specs.Layout.{sps93};
 ghost use Rattle.rules.specs.Text.{cols, blank as is_blank};
