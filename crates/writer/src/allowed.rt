@@ -105,7 +105,7 @@ fn begins(n: usize, v: u64) -> bool
     requires { 1 ≤ n }
     ensures value { result ≡ allows_text starts_non_blank (bytes_of n v) }
 {
-    printed(n, v) && first(n, v) != 32
+    printed(n, v) && first(n, v) != u64::from(b' ')
 }
 
 // The same of w bytes from two numbers.

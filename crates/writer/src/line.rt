@@ -30,7 +30,7 @@ fn field(w: Row, v: Option<Value>, line: &mut [u8; 82]) -> bool
     if k < n {
         return false;
     }
-    let at = texts::fill(32, k - n, line, w.first - 1);
+    let at = texts::fill(b' ', k - n, line, w.first - 1);
     texts::add(&ink[..n], line, at);
     true
 }

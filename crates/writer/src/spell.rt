@@ -15,7 +15,7 @@ use crate::values::Value;
 use fields::{Kind, Name};
 use records::table::Row;
 
-// Adds the minus of a number below 0. Sign and size go apart below: tenths are divided between the two.
+// Adds the minus of a number below 0. `minus` and `n` are two parameters all through: -0.5 is 5 tenths, and its 0 before the point has a minus.
 fn sign(minus: bool, out: &mut [u8; 40], at: usize) -> usize
     requires { at ≤ 16 }
     ensures added { Adds out.old at (sign_of minus) out.new result }
@@ -43,7 +43,7 @@ fn tenths(minus: bool, n: u64, out: &mut [u8; 40]) -> usize
 {
     let a = sign(minus, out, 0);
     let b = texts::digits(n / 10, out, a);
-    let tail = [b'.', 48 + (n % 10) as u8];
+    let tail = [b'.', b'0' + (n % 10) as u8];
     texts::add(&tail, out, b)
 }
 
@@ -64,7 +64,7 @@ fn clock(w: usize, minus: bool, n: u64, out: &mut [u8; 40]) -> usize
     if w <= m {
         return m;
     }
-    let a = texts::fill(48, w - m, out, 0);
+    let a = texts::fill(b'0', w - m, out, 0);
     whole(minus, n, out, a)
 }
 

@@ -9,7 +9,7 @@ use fields::Name;
 use records::point::Point;
 use records::relation::Relation;
 
-// What a field holds: text, of which a tape and a code have the second number alone, or a number.
+// What a field holds: a number, or text: that of a tape or a code is in `lo` alone.
 #[derive(Clone, Copy, Debug, PartialEq, Eq)]
 pub enum Value {
     Text(Name),
