@@ -86,7 +86,7 @@ fn relation_line(q: Relation) -> Option<[u8; 82]>
     }
 }
 
-// The line of a relation of sixteen numbers. 6 is asked first, and reads a wider number as 0; a wider number goes into no field.
+// The line of a relation of sixteen numbers. 6 is asked first, and reads a number wider than its 32 bits as 0: the field takes none such.
 #[tactic(auto, using(crate::proofs::Tables::ends), unfolding(records::specs::Coded::rows_of))]
 fn relation_numbers_line(v: [u64; 16]) -> Option<[u8; 82]>
     ensures value { result ≡ made (relation_takes (λ k. get_or v k 0)) (relation_text (λ k. get_or v k 0)) }

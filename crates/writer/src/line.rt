@@ -14,7 +14,8 @@ use crate::{allowed, rows, spell};
 use records::table;
 use records::table::{Row, Table};
 
-// Puts a value into the columns of its field, right justified, where they take it. The line is filled in place, so the answer is a bool.
+// Puts a value into the columns of its field, right justified, where they take it. The line is filled in place, so the answer is a bool; the text is
+// made between the two tests, so they are no chain.
 fn field(w: Row, v: Option<Value>, line: &mut [u8; 82]) -> bool
     requires { sized w.kind w.first w.last ≡ true }
     ensures goes { result ≡ goes_into (row_of w).kind (width_of (row_of w).columns) (value_of (width_of (row_of w).columns) v) }

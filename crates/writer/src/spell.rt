@@ -15,7 +15,7 @@ use crate::values::Value;
 use fields::{Kind, Name};
 use records::table::Row;
 
-// Adds the minus of a number below 0. `minus` and `n` are two parameters all through: -0.5 is 5 tenths, and its 0 before the point has a minus.
+// Adds the minus of a number below 0. Sign and size are two parameters all through: before the point of -0.5 the size is 0, and the minus stays.
 fn sign(minus: bool, out: &mut [u8; 40], at: usize) -> usize
     requires { at ≤ 16 }
     ensures added { Adds out.old at (sign_of minus) out.new result }
