@@ -1,6 +1,6 @@
 #![tactic(auto)]
 // One line of a file, read for a host that merges: 20 where it is not there, 3 to 6 of it, or its values; and these values as numbers in a row.
-ghost use Rattle.std.specs.Prelude.{◌≡◌, ◌-◌};
+ghost use Rattle.std.specs.Prelude.{◌≡◌, true, ◌-◌};
 ghost use Rattle.rules.specs.Plan.{run};
 ghost use Rattle.rules.specs.Points.{point_at};
 ghost use Rattle.rules.specs.Relations.{relation_at};
@@ -28,18 +28,17 @@ fn line_stands(how: Reading, f: &[u8], line: u64) -> bool
         && !fits::is_header(&lines::line_of(how, f, line as usize - 1))
 }
 
-// 20 unless `ok` and the line stands, then 3 to 6 of it as a line of file i.
+// 20 unless the line stands, then 3 to 6 of it as a line of file i.
 #[tactic(auto, using(crate::proofs::Lines::one_line_is), unfolding(rules::specs::Places::pick, rules::specs::Sheet::most_lines))]
-fn one_line(how: Reading, f: &[u8], ok: bool, i: u8, line: u64) -> Verdict
-    ensures verdict { paper result ≡ run (one_line ok i (sheet_of how f.now) line) }
+fn one_line(how: Reading, f: &[u8], i: u8, line: u64) -> Verdict
+    ensures verdict { paper result ≡ run (one_line true i (sheet_of how f.now) line) }
 {
-    if ok && line_stands(how, f, line) {
-        let k = line as usize - 1;
-        let l = lines::line_of(how, f, k);
-        form::data_fits(how, f, &l, i, k)
-    } else {
-        Err(lines::unplaced(20))
+    if !line_stands(how, f, line) {
+        return Err(lines::unplaced(20));
     }
+    let k = line as usize - 1;
+    let l = lines::line_of(how, f, k);
+    form::data_fits(how, f, &l, i, k)
 }
 
 // R or S.
@@ -55,7 +54,10 @@ pub fn read_point(how: Reading, letter: u64, f: &[u8], line: u64) -> Result<Poin
         (coded_point (point_at (sheet_of how f.now) (line - 1))) }
 {
     let i = lines::kind_of(letter);
-    one_line(how, f, of_points(i), i, line)?;
+    if !of_points(i) {
+        return Err(lines::unplaced(20));
+    }
+    one_line(how, f, i, line)?;
     Ok(point::point_of(&lines::line_of(how, f, line as usize - 1)))
 }
 
@@ -64,6 +66,6 @@ pub fn read_relation(how: Reading, f: &[u8], line: u64) -> Result<Relation, Refu
     ensures read { Reads result (relation_verdict (sheet_of how f.now) line)
         (coded_relation (relation_at (sheet_of how f.now) (line - 1))) }
 {
-    one_line(how, f, true, 3, line)?;
+    one_line(how, f, 3, line)?;
     Ok(relation::relation_of(&lines::line_of(how, f, line as usize - 1)))
 }

@@ -6,14 +6,14 @@ use Rattle.values.proofs.Lines.{stands}
 use Rattle.values.proofs.one_line.Goals as goal
 
 pub overflow_sub-k : goal.overflow_sub-k
-overflow_sub-k c = let s = stands _ _ (sym c.line_stands.ensures.value ∙ c.if-line_stands.true) in omega arith
+overflow_sub-k c = let s = stands _ _ (sym c.line_stands.ensures.value ∙ c.if-not-line_stands.false) in omega arith
 
 pub line_of-l-requires : goal.line_of-l-requires
-line_of-l-requires c = let s = stands _ _ (sym c.line_stands.ensures.value ∙ c.if-line_stands.true) in omega arith
+line_of-l-requires c = let s = stands _ _ (sym c.line_stands.ensures.value ∙ c.if-not-line_stands.false) in omega arith
 
 pub data_fits-requires : goal.data_fits-requires
 unfolding most_lines
-data_fits-requires c = let s = stands _ _ (sym c.line_stands.ensures.value ∙ c.if-line_stands.true) in
+data_fits-requires c = let s = stands _ _ (sym c.line_stands.ensures.value ∙ c.if-not-line_stands.false) in
     let l = c.line_of-l.ensures.value in
     record {
       k_bound = (omega arith, omega arith);
