@@ -10,7 +10,7 @@ fn low(b: u8) -> u64
     u64::from(b % 16)
 }
 
-// The number in columns a to b, at most 8.
+// The number in columns a to b, at most 8. The range is `a..b + 1`: one with its end runs with a flag beside the count.
 pub fn number(l: &[u8; 80], a: usize, b: usize) -> u64
     requires { (1 ≤ a) × ((b ≤ 80) × (b < a + 8)) }
     ensures value { result ≡ figures (cols l.now a b) }
