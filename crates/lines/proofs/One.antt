@@ -8,6 +8,8 @@ use Rattle.lines.specs.declared.Medium.{Medium}
 use Rattle.lines.specs.declared.Medium.TheVariants.{Disc, Tape}
 use Rattle.lines.specs.declared.Reading.{Reading}
 use Rattle.outcome.specs.One.{One, alike}
+use Rattle.lines.specs.contracts.unplaced as unplaced
+use Rattle.lines.proofs.unplaced.Reads as unplaced_reads
 use Rattle.lines.specs.contracts.at_line as at_line
 use Rattle.lines.proofs.at_line.Reads as at_line_reads
 use Rattle.lines.specs.contracts.disc as disc
@@ -131,6 +133,9 @@ stray_one κs a v v' w w' = alike
 pub show_one : (κs : Lfts 1) (a : ArgsD show.signature κs) (v v' : ResD show.signature κs) (s s' : AtExit show.ended κs)
     → show_reads.Post κs a v s → show_reads.Post κs a v' s' → (v.ref_ptr ≡ v'.ref_ptr) × (v.now ≡ v'.now)
 show_one κs a v v' s s' p p' = (p.1 ∙ sym p'.1, p.0 ∙ sym p'.0)
+
+pub unplaced_one : One unplaced.ended unplaced_reads.Post
+unplaced_one κs a v v' w w' p p' = (told_one v v' (p ∙ sym p'), refl)
 
 pub at_line_one : One at_line.ended at_line_reads.Post
 at_line_one κs a v v' w w' p p' = (verdict_one v v' (p ∙ sym p'), refl)

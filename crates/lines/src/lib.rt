@@ -24,7 +24,8 @@ pub use letters::{kind_of, letter};
 // At most so many lines a file.
 pub const MOST_LINES: usize = 9999;
 
-// What a file or a set is refused for: the number, and where: the file (R 1, S 2, X 3), the line and the column, from 1; 0 where there is none.
+// What a file or a set is refused for: the paper's number, which hosts are told as it is, and where: the file (R 1, S 2, X 3), the line and the
+// column, from 1; 0 where there is none.
 #[derive(Clone, Copy, Debug, PartialEq, Eq)]
 pub struct Refusal {
     pub number: u8,
