@@ -36,10 +36,7 @@ fn numbers_fit(l: &[u8; 80], i: u8, k: usize) -> Verdict
     requires { k ≤ most_lines }
     ensures verdict { paper result ≡ run (numbers_of sps93 i k l.now) }
 {
-    if i != 3 {
-        return Ok(());
-    }
-    if fits::is_header(l) {
+    if i != 3 || fits::is_header(l) {
         return Ok(());
     }
     fits::rule6(l, k)

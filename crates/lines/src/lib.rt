@@ -164,10 +164,7 @@ pub fn length_fits(how: Reading, f: &[u8], i: u8) -> Verdict
     let w = stride(how);
     let n = f.len() / w;
     if f.len() % w != 0 {
-        if n < MOST_LINES {
-            return at_line(1, i, n, 0);
-        }
-        return at_line(1, i, MOST_LINES, 0);
+        return at_line(1, i, n.min(MOST_LINES), 0);
     }
     if MOST_LINES < n {
         return at_line(2, i, MOST_LINES, 0);

@@ -12,21 +12,13 @@ nonzero_div-n c = omega (arith, width c.args.how _ c.stride-w.ensures.value)
 pub nonzero_rem-f : goal.nonzero_rem-f
 nonzero_rem-f c = omega (arith, width c.args.how _ c.stride-w.ensures.value)
 
-pub returns-then-n-lt-MOST_LINES : goal.returns-then-n-lt-MOST_LINES
-returns-then-n-lt-MOST_LINES c = record {
-  verdict = let a = c.args in
-      let s = c.stride-w.ensures.value in
-      let l = left_by a.how _ s a.f.now in
-      c.at_line.ensures.verdict
-      ∙ one_broken a.i (sheet_of a.how a.f.now) _ (all_by a.how _ s a.f.now) _ (λ z. c.if-f-w-ne0.true (l ∙ z)) (omega arith);
-}
-
 pub returns-then-f-w-ne0 : goal.returns-then-f-w-ne0
 returns-then-f-w-ne0 c = record {
   verdict = let a = c.args in
       let s = c.stride-w.ensures.value in
       let l = left_by a.how _ s a.f.now in
-      c.at_line-then-f-w-ne0.ensures.verdict
+      let m = c.min.ensures in
+      c.at_line.ensures.verdict
       ∙ one_broken a.i (sheet_of a.how a.f.now) _ (all_by a.how _ s a.f.now) _ (λ z. c.if-f-w-ne0.true (l ∙ z)) (omega arith);
 }
 
