@@ -18,7 +18,8 @@ use records::state::State;
 
 mod parts;
 
-// What lines are compared by: points by name, number and index; receivers by name, index and number; relation lines by record and tape.
+// What lines are compared by: points by name, number and index; receivers by name, index and number; relation lines by record and tape. It is a
+// value and no type parameter, of which each would have a sort of its own.
 #[derive(Clone, Copy, Debug, PartialEq, Eq)]
 pub enum By {
     Points,

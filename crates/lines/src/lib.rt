@@ -37,7 +37,7 @@ pub struct Refusal {
 // What a check says of a file or a set: nothing, or what it is refused for.
 pub type Verdict = Result<(), Refusal>;
 
-// The form in which files come.
+// The form in which files come: a value and no type parameter, since it is known only when the check runs.
 #[derive(Clone, Copy, Debug, PartialEq, Eq)]
 pub enum Medium {
     Disc,

@@ -24,6 +24,7 @@ pub fn state_number(s: State) -> u64
     }
 }
 
+// The places of a point: a function, since they are the C hosts' and the crate of `Point` knows of none.
 #[tactic(auto, using(crate::proofs::Carried::signed), unfolding(crate::specs::Places::point_numbers))]
 pub fn point_places(p: Point) -> [u64; 16]
     ensures value { result ≡ point_numbers p }
@@ -48,6 +49,7 @@ pub fn point_places(p: Point) -> [u64; 16]
     ]
 }
 
+// Those of a relation.
 #[tactic(auto, unfolding(crate::specs::Places::relation_numbers))]
 pub fn relation_places(v: Relation) -> [u64; 16]
     ensures value { result ≡ relation_numbers v }

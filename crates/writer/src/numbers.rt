@@ -1,4 +1,5 @@
-// The values of a point and of a relation from sixteen numbers of 64 bits, as a C host has them.
+// The values of a point and of a relation from sixteen numbers of 64 bits, as a C host has them; functions, since an array has no conversion of
+// this crate.
 ghost use Rattle.std.specs.Prelude.{◌≡◌, ℕ, ◌^◌, ◌<◌, get_or};
 ghost use Rattle.rules.specs.Layout.{sps93};
 ghost use Rattle.rules.specs.Rows.{point_rows, relation_rows};
