@@ -1,5 +1,6 @@
 // All fields of a line obey their rules: the rows of a table one after the other, with their columns as constants. Where one of these
 // calls is true, 5 refuses nothing; where it is false, the loop over the table names the field.
+// Each function names what it unfolds: one list for the module is longer than a line may be.
 ghost use Rattle.std.specs.Prelude.{◌≡◌, true, false, ℕ, take, drop};
 ghost use Rattle.rules.specs.Plan.{fine, run};
 ghost use Rattle.rules.specs.Text.{cols};

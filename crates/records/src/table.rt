@@ -1,4 +1,5 @@
 // The paper's tables of fields, one row a field: its columns, its rule, whether it may be blank, whether a marker has it free.
+// Each function names what it unfolds: one list for the module is longer than a line may be.
 ghost use Rattle.std.specs.Prelude.{◌≡◌, true, ℕ, ◌<◌, length, get_or};
 ghost use Rattle.rules.specs.Layout.{sps93};
 ghost use Rattle.rules.specs.Rows.{header_rows, point_rows, relation_rows};
