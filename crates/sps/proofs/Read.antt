@@ -22,14 +22,14 @@ fine_told : (v : Verdict) → v ≡ fine → (ps qs o e : List ℕ) → ps ≡ q
 unfolding read_as carried
 fine_told v y ps qs o e q w a n p = rw y (record { answer = p; values = w ∙ ap (λ (l : List ℕ). placed l o) q })
 
-pub point_told : (q : Point) (p : PaperPoint) {v : Verdict} → v ≡ fine → q ≡ coded_point p → (ps : List ℕ) → ps ≡ point_numbers q → (o e : List ℕ) → e ≡ placed ps o
-    → (a : ℕ) → a ≡ state_number q.state → Told v (state_place p.state) (point_places p) o a e
+pub point_told : (q : Point) (p : PaperPoint) {v : Verdict} → v ≡ fine → q ≡ coded_point p → (ps : List ℕ) → ps ≡ point_numbers q → (o e : List ℕ)
+    → e ≡ placed ps o → (a : ℕ) → a ≡ state_number q.state → Told v (state_place p.state) (point_places p) o a e
 point_told q p {v} f y ps h o e w a s =
     fine_told v f ps (point_places p) o e (h ∙ ap point_numbers y ∙ point_places_lem p) w a (state_place p.state)
     (s ∙ ap (λ (q : Point). state_number q.state) y ∙ state_place_lem p.state)
 
-pub relation_told : (q : Relation) (p : PaperRelation) {v : Verdict} → v ≡ fine → q ≡ coded_relation p → (ps : List ℕ) → ps ≡ relation_numbers q → (o e : List ℕ)
-    → e ≡ placed ps o → Told v 0 (relation_places p) o 0 e
+pub relation_told : (q : Relation) (p : PaperRelation) {v : Verdict} → v ≡ fine → q ≡ coded_relation p → (ps : List ℕ) → ps ≡ relation_numbers q
+    → (o e : List ℕ) → e ≡ placed ps o → Told v 0 (relation_places p) o 0 e
 relation_told q p {v} f y ps h o e w =
     fine_told v f ps (relation_places p) o e (h ∙ ap relation_numbers y ∙ relation_places_lem p) w 0 0 refl
 

@@ -15,7 +15,8 @@
 --   TellsWritten n ok m  = n is the number of a line that is written, of values that go into it or not, into a slice of m bytes
 --   LineTold n l o e     = what stands in that slice, o before and e after the call that answers n, of the line l
 --   CountsTold v o e     = what stands in the slice of counts, o before and e after the call that answers v
-use Rattle.std.specs.Prelude.{ℕ, ◌+◌, ◌*◌, ◌/◌, ◌%◌, ◌^◌, ◌≤◌, ◌<◌, ◌≡◌, ◌↔◌, Bool, true, false, Option, None, Some, Ok, Err, List, [], ◌∷◌, ◌++◌, length, get_or, take, drop}
+use Rattle.std.specs.Prelude.{ℕ, ◌+◌, ◌*◌, ◌/◌, ◌%◌, ◌^◌, ◌≤◌, ◌<◌, ◌≡◌, ◌↔◌, Bool, true, false}
+use Rattle.std.specs.Prelude.{Option, None, Some, Ok, Err, List, [], ◌∷◌, ◌++◌, length, get_or, take, drop}
 use Rattle.rules.specs.Places.{pick}
 use Rattle.rules.specs.Plan.{№}
 use Rattle.rules.specs.Hosts.{low_bytes}

@@ -16,5 +16,6 @@ returns c = record {
       c.number.ensures.value
       ∙ channel_number _
       ∙ ap host_number (by_reading _ _ c.reading.ensures.by _ _ c.and_then.ensures paper_channel (λ e. refl)
-      (λ (M : Medium). way_back (sheet M sps93 a.r.now) (sheet M sps93 a.s.now) (sheet M sps93 a.x.now) a.tape.now a.«record» a.r_line a.component) (λ how w. search rules));
+      (λ (M : Medium). way_back (sheet M sps93 a.r.now) (sheet M sps93 a.s.now) (sheet M sps93 a.x.now) a.tape.now a.«record» a.r_line a.component)
+      (λ how w. search rules));
 }

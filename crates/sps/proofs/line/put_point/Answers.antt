@@ -17,4 +17,7 @@ returns-in_err-p c = let p = err_from_is_err_and c.from_residual-in_err-p.result
 pub returns : goal.returns
 unfolding sheet_of
 returns c = let r = c.in_ok-p.ensures.read in
-    record { told = when_on _ _ _ _ c.in_ok-reading.ensures.by (point_told _ _ r.0 r.1 _ c.point_places.ensures.value _ _ c.put_all.ensures.written _ c.state_number.ensures.value) }
+    record {
+      told = when_on _ _ _ _ c.in_ok-reading.ensures.by
+          (point_told _ _ r.0 r.1 _ c.point_places.ensures.value _ _ c.put_all.ensures.written _ c.state_number.ensures.value);
+    }
