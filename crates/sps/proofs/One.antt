@@ -1,5 +1,6 @@
 -- The contracts of this crate leave one outcome: any two results, and contents of the lent slices, that meet one of them are the same.
 use Prim.Native.Nat.{ℕ}
+use native.Mathlib.Omega.{arith}
 use mathlib.Core.Path.{◌≡◌, refl, sym, ap, ◌∙◌}
 use mathlib.Core.List.{List}
 use Rattle.rules.specs.Plan.{Verdict}
@@ -10,9 +11,30 @@ use Rattle.traces.specs.Calls.{Table}
 use Rattle.sps.specs.Table.{SpreadTold}
 use Rattle.sps.specs.Values.{Told, PointTold, RelationTold}
 use Rattle.outcome.specs.One.{One, both}
+use Rattle.std.specs.Prelude.{Result, Ok, Err}
+use Rattle.rules.specs.Disc.{disc}
+use Rattle.rules.specs.Tape.{tape}
+use Rattle.lines.specs.Reading.{medium_on}
+use Rattle.lines.specs.declared.Medium.{Medium as ReadMedium}
+use Rattle.lines.specs.declared.Medium.TheVariants.{Disc, Tape}
+use Rattle.lines.specs.declared.Reading.{Reading}
+use Rattle.lines.specs.declared.Refusal.{Refusal}
+use Rattle.lines.proofs.One.{told_one as refusal_one}
 use Rattle.sets.proofs.One.{answer_one as set_one}
+use denote.RattleType.{RattleType}
+use denote.Param.Laws.{Laws}
+use contract.Lifetimes.{Lfts}
+use denote.Triple.Clauses.{at_exit, Lasts}
+use denote.Triple.Entry.{Args, Res}
+use mir.Syntax.{Dict}
+use Rattle.sps.specs.declared.HostAnswer.{Ghosts}
+use Rattle.sps.specs.Number.{ReadBy}
 use Rattle.sps.specs.contracts.pack as pack
 use Rattle.sps.proofs.pack.Reads as pack_reads
+use Rattle.sps.specs.contracts.number as number
+use Rattle.sps.proofs.number.Reads as number_reads
+use Rattle.sps.specs.contracts.reading as reading
+use Rattle.sps.proofs.reading.Reads as reading_reads
 use Rattle.sps.specs.contracts.put_counts as put_counts
 use Rattle.sps.proofs.put_counts.Reads as put_counts_reads
 use Rattle.sps.specs.contracts.mark as mark
@@ -50,6 +72,35 @@ use Rattle.sps.proofs.sps_spread.Reads as sps_spread_reads
 
 pub pack_one : One pack.ended pack_reads.Post
 pack_one κs a v v' w w' p p' = (p ∙ sym p', refl)
+
+-- of every kind of answer; what stands behind a `&mut` in one is that kind's
+pub number_one : (T : RattleType) (l : Laws T) (says : Ghosts T.Denot) (d : Dict) (κs : Lfts (number.ended T says d).signature.lifetimes)
+    (a : Args (number.ended T says d).signature κs) (v v' : Res (number.ended T says d).signature κs) (w w' : Lasts (number.ended T says d) κs a)
+    → number_reads.Post T l says d κs a v (at_exit (number.ended T says d) κs a w)
+    → number_reads.Post T l says d κs a v' (at_exit (number.ended T says d) κs a w') → v ≡ v'
+number_one T l says d κs a v v' w w' p p' = p ∙ sym p'
+
+-- the media differ in the bytes of a line
+width : Choice → ℕ
+width (on M) = M.stride
+width none = 0
+
+medium_one : (m n : ReadMedium) → on (medium_on m) ≡ on (medium_on n) → ◌≡◌ {A = Reading} (record { medium = m }) (record { medium = n })
+unfolding disc tape width
+medium_one Disc Disc e = refl
+medium_one Disc Tape e = absurd (let z = ap width e in omega arith)
+medium_one Tape Disc e = absurd (let z = ap width e in omega arith)
+medium_one Tape Tape e = refl
+
+read_one : (d : Choice) (r r' : Result Reading Refusal) → ReadBy d r → ReadBy d r' → r ≡ r'
+unfolding disc tape width
+read_one d (Ok how) (Ok other) p q = ap Ok (medium_one how.medium other.medium (sym p ∙ q))
+read_one d (Ok how) (Err e) p q = absurd (let z = sym p ∙ q.0 in cc)
+read_one d (Err e) (Ok how) p q = absurd (let z = sym p.0 ∙ q in cc)
+read_one d (Err e) (Err f) p q = ap Err (refusal_one e f (p.1 ∙ sym q.1))
+
+pub reading_one : One reading.ended reading_reads.Post
+reading_one κs a v v' w w' p p' = (read_one (choice a.0) v v' p p', refl)
 
 pub put_counts_one : One put_counts.ended put_counts_reads.Post
 put_counts_one κs a v v' w w' p p' = (refl, both refl (both (p ∙ sym p') refl))
