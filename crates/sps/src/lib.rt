@@ -23,7 +23,7 @@ use traces::{Question, Reached};
 mod line;
 mod places;
 
-// A refusal as one number.
+// A refusal as one number, since a host of C gets no Result.
 #[tactic(auto, unfolding(rules::specs::Hosts::packed))]
 fn pack(e: Refusal) -> u64
     ensures value { result ≡ packed (told e) }
@@ -64,6 +64,7 @@ impl HostAnswer for Counts {
 impl HostAnswer for Option<Reached> {
     ghost told_as = { trace_number };
 
+    #[tactic(auto, using(crate::proofs::Told::mark_few))]
     fn told(self) -> u64 {
         match self {
             Some(t) => u64::from(t.line) * 16 + u64::from(t.component) + mark(t.killed),
@@ -126,6 +127,7 @@ fn crossed(medium: u64, r: &[u8], s: &[u8], x: &[u8]) -> Result<Counts, Refusal>
 }
 
 // Puts the receivers, shots, relation lines, traces and dead traces of an accepted set. A refusal writes nothing.
+#[tactic(auto, unfolding(crate::specs::Counts::counted))]
 fn put_counts(a: Result<Counts, Refusal>, counts: &mut [u8])
     ensures written { counts.new ≡ counted (set_paper a) counts.old }
 {
@@ -146,6 +148,7 @@ pub extern "C" fn sps_form(medium: u64, kind: u64, file: &[u8]) -> u64
 }
 
 // The cross-check of a set: its traces.
+#[tactic(auto, using(crate::proofs::Chosen::set_number))]
 #[unsafe(no_mangle)]
 pub extern "C" fn sps_cross(medium: u64, r: &[u8], s: &[u8], x: &[u8]) -> u64
     ensures answer { result ≡ host_number (cross_in (choice medium) r.now s.now x.now) }
@@ -155,6 +158,7 @@ pub extern "C" fn sps_cross(medium: u64, r: &[u8], s: &[u8], x: &[u8]) -> u64
 
 // The same, and the receivers, shots, relation lines, traces and dead traces of an accepted set in counts: places of eight bytes, low byte first, of
 // which those are written that counts has whole. A refusal writes nothing.
+#[tactic(auto, using(crate::proofs::Chosen::set_number))]
 #[unsafe(no_mangle)]
 pub extern "C" fn sps_counts(medium: u64, r: &[u8], s: &[u8], x: &[u8], counts: &mut [u8]) -> u64
     ensures answer { result ≡ host_number (cross_in (choice medium) r.now s.now x.now) }
@@ -221,7 +225,7 @@ pub extern "C" fn sps_spread(
         tape.now «record» lines.old components.old)
         lines.old components.old result lines.new components.new }
 {
-    // A match: a closure does not say what it leaves in a lent slice.
+    // A match: a closure does not say what it leaves in a lent slice, and a function for `?` would have these parameters and clauses again.
     match reading(medium) {
         Ok(how) => {
             let q = Question { how, record };
@@ -249,6 +253,7 @@ pub extern "C" fn sps_table_line(
 
 // All traces of a set as rows of sixteen bytes: of an accepted set those from trace `first` on go into the places of a slice, as many as it has
 // whole. Answers the traces of the set. A refusal writes nothing.
+#[tactic(auto, using(crate::proofs::Chosen::set_number), unfolding(lines::specs::Reading::sheet_of, rules::specs::Hosts::host_number))]
 #[unsafe(no_mangle)]
 pub extern "C" fn sps_traces(
     medium: u64,
