@@ -21,7 +21,9 @@ returns-in_err-rule25 c = record {
       let v = c.in_ok-rule24.ensures in
       let w = v.written refl in
       let p = err_from_is_err_and c.from_residual-in_err-rule25.result c.from_residual-in_err-rule25.ensures.1 in
-      rw (p.1, p.2) (before_broken _ _ _ (c.in_err-rule25.ensures.verdict ∙ all_used a.how a.r.now a.r.now _ w 1 (lit≤ tt, lit≤ tt)) ∙ before_met _ _ v.verdict);
+      rw (p.1, p.2)
+      (before_broken _ _ _ (c.in_err-rule25.ensures.verdict ∙ all_used a.how a.r.now a.r.now _ w 1 (lit≤ tt, lit≤ tt))
+      ∙ before_met _ _ v.verdict);
 }
 
 pub returns-in_err-rule25-2 : goal.returns-in_err-rule25-2

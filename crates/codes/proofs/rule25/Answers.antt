@@ -12,6 +12,7 @@ returns-then-not-named-p c = record {
       let at = c.loop-k in
       let n = c.line_count-k-end.ensures.value in
       let broken = note_broken a.named.now _ _ at.k _ (layout_is a.how a.f.now) c.code_column.ensures.value
-      (ap (allowed a.named.now) (sym c.in-Some.ensures.value) ∙ refused_here a.named.now c.in-Some.p (omega (arith, c.in-Some.ensures.few)) c.if-not-named-p.true) in
+      (ap (allowed a.named.now) (sym c.in-Some.ensures.value)
+      ∙ refused_here a.named.now c.in-Some.p (omega (arith, c.in-Some.ensures.few)) c.if-not-named-p.true) in
       c.at_line.ensures.verdict ∙ stops_here _ at.k _ _ (omega arith) at.invariant broken;
 }

@@ -23,13 +23,15 @@ returns-in_err-rule4 c = record {
   verdict = let a = c.args in
       let p = err_from_is_err_and c.from_residual.result c.from_residual.ensures.1 in
       rw (p.1, p.2)
-      (line_clean _ _ _ _ (sym (not_given _ _ c.stray.ensures.value c.in_default.is)) refl _ (layout_is a.how a.f.now) _ c.requires.l_value.0 _ c.requires.l_value.1 _
+      (line_clean _ _ _ _ (sym (not_given _ _ c.stray.ensures.value c.in_default.is)) refl _ (layout_is a.how a.f.now) _
+      c.requires.l_value.0 _ c.requires.l_value.1 _
       (before_broken _ _ _ c.in_err-rule4.ensures.verdict));
 }
 
 pub returns : goal.returns
 returns c = record {
   verdict = let a = c.args in
-      line_clean _ _ _ _ (sym (not_given _ _ c.stray.ensures.value c.in_default.is)) refl _ (layout_is a.how a.f.now) _ c.requires.l_value.0 _ c.requires.l_value.1 _
+      line_clean _ _ _ _ (sym (not_given _ _ c.stray.ensures.value c.in_default.is)) refl _ (layout_is a.how a.f.now) _
+      c.requires.l_value.0 _ c.requires.l_value.1 _
       (c.fields_fit.ensures.verdict ∙ before_met _ _ c.in_ok-rule4.ensures.verdict);
 }
