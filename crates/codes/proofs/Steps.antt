@@ -16,7 +16,6 @@ use Rattle.rules.specs.Headers.{two_digits}
 use Rattle.rules.specs.Codes.{tables_of, is_instrument, three_digits, opens}
 use Rattle.rules.proofs.Tests.{says, and_is}
 use Rattle.rules.proofs.Columns.{cols_end, cols_step}
-use Rattle.rules.proofs.Steps.{some_none, some_more, some_stop}
 use Rattle.rules.proofs.Fields.{family_is}
 use Rattle.rules.proofs.Codes.{is_code_lem}
 use Rattle.codes.specs.Named.{place_for, numbered, kind_on, place_on}
@@ -165,8 +164,6 @@ pub ruleset points = (no_point_digit, no_code, point_here, point_range)
 pub ruleset kinds_of_place = (for_instrument, for_point)
 
 pub ruleset numbers = (number_here, other_number)
-
-pub ruleset number_walk = (some_none, some_more, some_stop, step_fits)
 
 pub ruleset kinds = (kind_1, kind_2, kind_3, kind_0)
 

@@ -64,17 +64,12 @@ fn is_numbered(l: &[u8; 80], t: u16) -> bool
 }
 
 // One of `many` numbers, which begin at `first` and stand `step` apart.
-#[tactic(auto, using(crate::proofs::Steps::number_walk))]
+#[tactic(auto, using(crate::proofs::Steps::step_fits))]
 fn opens(l: &[u8; 80], first: u16, step: u16, many: u16) -> bool
     requires { first + step * many < 1000 }
     ensures value { result ≡ numbered l.now first step many }
 {
-    for n in 0..many {
-        if is_numbered(l, first + step * n) {
-            return true;
-        }
-    }
-    false
+    (0..many).any(|n| is_numbered(l, first + step * n))
 }
 
 // The kind of the table of which a header line is the first record: receivers 1, sources 2, instruments 3.

@@ -15,16 +15,10 @@ use keys::Keyed;
 use lines::Reading;
 
 // Some line of R is killed.
-#[tactic(auto, using(rules::proofs::Steps::some_none, rules::proofs::Steps::some_more))]
 fn any_killed(how: Reading, r: &[u8]) -> bool
     ensures value { result ≡ some (sheet_of how r.now).count (λ k. is_killed (point_at (sheet_of how r.now) k)) }
 {
-    for k in 0..lines::line_count(how, r) {
-        if keys::killed(how, r, k) {
-            return true;
-        }
-    }
-    false
+    (0..lines::line_count(how, r)).any(|k| keys::killed(how, r, k))
 }
 
 // 1 where line k of R is killed, else 0.

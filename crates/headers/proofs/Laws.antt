@@ -17,7 +17,7 @@ use Rattle.rules.specs.Sheet.{Sheet}
 use Rattle.rules.specs.Lines.{is_header, is_data, heads}
 use Rattle.rules.specs.Headers.{two_digits, is_type, projection, same_columns, rule7, rule8, rule9}
 use Rattle.rules.proofs.Least.{least_below}
-use Rattle.rules.proofs.Steps.{least_none_yet, least_more, least_stop, some_none, some_more, some_stop, every_none, every_more, none_yet, one_more, stops_here}
+use Rattle.rules.proofs.Steps.{least_none_yet, least_more, least_stop, every_none, every_more, none_yet, one_more, stops_here}
 use Rattle.rules.proofs.Steps.{every_stop, need_met, need_broken, before_met, before_broken, when_on, when_off}
 use Rattle.fields.proofs.Codes.{two_columns}
 use Rattle.lines.proofs.Sheets.{layout_is, row_length}
@@ -135,8 +135,6 @@ module _ (r f : Sheet) (a b n : ℕ) (p : a ≡ heads r) (q : b ≡ heads f) (s 
 pub ruleset header_walk = (data_here, least_none_yet, least_stop, least_more)
 
 pub ruleset two_and_blank = (type_other, type_digits)
-
-pub ruleset type_walk = (type_here, layout_is, some_none, some_stop, some_more)
 
 pub ruleset seven = (heads_below, seven_broken, seven_met, every_none, every_more)
 

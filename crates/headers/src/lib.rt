@@ -41,18 +41,11 @@ fn is_type(l: &[u8; 80], t: u8) -> bool
 }
 
 // One of the first n lines is of type t.
-#[tactic(auto, using(crate::proofs::Laws::type_walk), unfolding(crate::specs::Steps::has_type))]
 fn has_type(how: Reading, f: &[u8], n: usize, t: u8) -> bool
     requires { (n ≤ (sheet_of how f.now).count) × (t < 100) }
     ensures value { result ≡ has_type (sheet_of how f.now) n t }
 {
-    for k in 0..n {
-        let l = lines::line_of(how, f, k);
-        if is_type(&l, t) {
-            return true;
-        }
-    }
-    false
+    (0..n).any(|k| is_type(&lines::line_of(how, f, k), t))
 }
 
 // 7: R's header has each of the types 00 to 20.

@@ -56,12 +56,7 @@ fn pairs_apart(how: Reading, x: &[u8], k: usize, start: usize) -> bool
     requires { Known 3 (sheet_of how x.now) × Lines (sheet_of how x.now) start k }
     ensures value { result ≡ apart (sheet_of how x.now) start k }
 {
-    for j in start..k {
-        if lines_meet(how, x, k, j) {
-            return false;
-        }
-    }
-    true
+    (start..k).all(|j| !lines_meet(how, x, k, j))
 }
 
 // The mark of the record that begins in line `start`: no other record has it.

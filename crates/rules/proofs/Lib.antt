@@ -3,6 +3,7 @@ pub mod Contrary
 pub mod Least
 pub mod Breach
 pub mod Steps
+pub mod Ranges
 pub mod Columns
 pub mod Numbers
 pub mod Sizes

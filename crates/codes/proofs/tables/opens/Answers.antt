@@ -1,11 +1,7 @@
 -- What `codes::tables::opens` leaves to show.
-use native.Mathlib.Omega.{arith}
-use mathlib.Core.Path.{sym, ◌∙◌}
-use Rattle.rules.proofs.Steps.{some_stop}
+use Rattle.std.proofs.Common.{rules, tests}
+use Rattle.rules.proofs.Ranges.{some_from_any}
 use Rattle.codes.proofs.tables.opens.Goals as goal
 
-pub returns-then-is_numbered : goal.returns-then-is_numbered
-returns-then-is_numbered c = record {
-  value = let at = c.loop-n in
-      sym (some_stop _ at.n _ (omega arith) (sym c.is_numbered.ensures.value ∙ c.if-is_numbered.true));
-}
+pub returns : goal.returns
+returns c = record { value = some_from_any _ _ c.any.ensures.ran (cc) (λ x b q k. search (rules, tests)) }
