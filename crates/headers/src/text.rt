@@ -4,7 +4,7 @@ ghost use Rattle.rules.specs.Text.{cols, blank as is_blank};
 ghost use Rattle.rules.specs.Headers.{cut};
 ghost use Rattle.headers.specs.Steps.{names};
 
-// Only blanks stand from column a on, up to a semicolon or the end.
+// Only blanks stand from column a on, up to a semicolon or the end. It is a loop, since either a semicolon or another byte ends it.
 #[tactic(auto, using(crate::proofs::Projection::ends_told))]
 fn ends(l: &[u8; 80], a: usize) -> bool
     requires { 1 ≤ a }
@@ -27,13 +27,8 @@ fn names_at(l: &[u8; 80], c: usize) -> bool
     requires { (1 ≤ c) × ((c ≤ 80) × (get_or l.now (c - 1) 0 ≡ 32 → ⊥)) }
     ensures value { result ≡ names (cols l.now c 80) }
 {
-    if l[c - 1] == b';' {
-        return false;
-    }
-    if l[c - 1] != b'N' || 78 < c || l[c] != b'/' || l[c + 1] != b'A' {
-        return true;
-    }
-    !ends(l, c + 3)
+    l[c - 1] != b';'
+        && !(l[c - 1] == b'N' && c <= 78 && l[c] == b'/' && l[c + 1] == b'A' && ends(l, c + 3))
 }
 
 // Whether the text in columns 33-80 names a projection.
