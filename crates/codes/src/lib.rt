@@ -1,6 +1,6 @@
 #![tactic(auto)]
 // The code tables of R's header: 24, then 25 over R, S and X. One pass over the header notes which codes are named, one pass over the lines
-// of each file asks for those that they use.
+// of each file asks for those that they use. A kind of codes is the number of the file that uses them, since callers ask of any number.
 ghost use Rattle.std.specs.Prelude.{◌≡◌, [], ◌∷◌, ◌≤◌, ◌<◌, replicate, true, false, IfSome};
 ghost use Rattle.rules.specs.Plan.{fine, run, up_to};
 ghost use Rattle.rules.specs.Layout.{sps93};
@@ -85,6 +85,7 @@ pub fn codes_fit(how: Reading, r: &[u8], s: &[u8], x: &[u8]) -> Verdict
     requires { Known 1 (sheet_of how r.now) × (Known 2 (sheet_of how s.now) × Known 3 (sheet_of how x.now)) }
     ensures verdict { paper result ≡ run (codes_fit (sheet_of how r.now) (sheet_of how s.now) (sheet_of how x.now)) }
 {
+    // flags, since nothing is allocated
     let mut named = [false; tables::PLACES];
     rule24(how, r, &mut named)?;
     rule25(how, 1, r, &named)?;

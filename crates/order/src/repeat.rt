@@ -18,7 +18,7 @@ fn linked(by: By, j: usize, k: usize) -> bool
     by == By::Records && j + 1 == k
 }
 
-// The lesser of r and the line at place e + 1, where that repeats the one at place e.
+// The lesser of r and the line at place e + 1, where that repeats the one at place e; r is the number of lines until one does.
 fn lesser(z: Keyed, f: &[u8], o: &[u32], m: usize, e: usize, r: usize) -> usize
     requires small { Small (keys_in z f.now) × (((sheet_of z.how f.now).count ≤ most_lines) × (e + 1 < m)) }
     requires in_order { InOrder z.by (sheet_of z.how f.now) o.now m × Seen z.by (sheet_of z.how f.now) r }
@@ -33,7 +33,7 @@ fn lesser(z: Keyed, f: &[u8], o: &[u32], m: usize, e: usize, r: usize) -> usize
     }
 }
 
-// By one pass over the first m places of the order.
+// By one pass over the first m places of the order; the number of lines where there is none, as `least` of the rules has it.
 pub fn first(z: Keyed, f: &[u8], o: &[u32], m: usize) -> usize
     requires small { Small (keys_in z f.now) × ((sheet_of z.how f.now).count ≤ most_lines) }
     requires in_order { InOrder z.by (sheet_of z.how f.now) o.now m }
