@@ -8,14 +8,8 @@ use Rattle.spread.specs.Asked.{is_of}
 use Rattle.spread.proofs.Asked.{greatest_max, highest_by}
 use Rattle.spread.proofs.highest.Goals as goal
 
-pub coded-w-requires : goal.coded-w-requires
-coded-w-requires c = c.requires.1
-
 pub loop-k-init : goal.loop-k-init
 loop-k-init c = sym (greatest_none _)
-
-pub upto_of-requires : goal.upto_of-requires
-upto_of-requires c = let n = c.line_count-k-end.ensures.value in omega arith
 
 pub loop-k-preserved : goal.loop-k-preserved
 loop-k-preserved c = c.max-h.ensures ∙ greatest_max _ _ _ _ c.loop-k.invariant c.upto_of.ensures.value

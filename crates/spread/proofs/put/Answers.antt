@@ -23,15 +23,9 @@ loop-c-init g c = let a = c.args in
       components = none_between place numbers.places _ _ _ _;
     }
 
-pub line_to-requires : goal.line_to-requires
-line_to-requires g c = let at = c.loop-c in at.invariant.walk.led at.c (omega arith) c.loop-c-test.true
-
 pub overflow_cast-line_to : goal.overflow_cast-line_to
 unfolding most_lines
 overflow_cast-line_to g c = omega (arith, c.line_to.ensures.few)
-
-pub overflow_sub-c : goal.overflow_sub-c
-overflow_sub-c g c = let w = c.loop-c.invariant.walk.known.first in omega arith
 
 pub put-requires : goal.put-requires
 put-requires g c = let at = c.loop-c in
@@ -40,20 +34,12 @@ put-requires g c = let at = c.loop-c in
     let n = ap g.P.Places.room at.invariant.lines ∙ taken_size g.P.Places.puts g.P.Places.room g.met.P.Places.laws.size _ _ _ _ in
     omega arith
 
-pub component-requires : goal.component-requires
-component-requires g c = let w = c.loop-c.invariant.walk.known in
-    let m = w.most in
-    (omega arith, (omega arith, w.one))
-
 pub overflow_cast-components : goal.overflow_cast-components
 overflow_cast-components g c = let at = c.loop-c in
     let w = at.invariant.walk in
     let m = w.small at.c (omega arith) c.loop-c-test.true in
     let n = c.component.ensures.value _ w.coded in
     omega arith
-
-pub overflow_sub-components : goal.overflow_sub-components
-overflow_sub-components g c = let w = c.loop-c.invariant.walk.known.first in omega arith
 
 pub bounds-components-c : goal.bounds-components-c
 bounds-components-c g c = let at = c.loop-c in

@@ -5,16 +5,6 @@ use mathlib.Core.Path.{◌≡◌, ap₂}
 use Rattle.rules.specs.Cover.{lowest, leads}
 use Rattle.spread.proofs.led.row_to.Goals as goal
 
-pub overflow_sub-n : goal.overflow_sub-n
-overflow_sub-n c = let w = c.requires in
-    omega (arith, c.leads.ensures.value w.reach w.coded, c.lowest.ensures.value w.reach w.coded, w.above)
-
-pub overflow_add-result : goal.overflow_add-result
-overflow_add-result c =
-    let on : c.leads.result - c.lowest.result ≡ leads c.requires.reach c.args.c - lowest c.requires.reach =
-    let w = c.requires in ap₂ ◌-◌ (c.leads.ensures.value w.reach w.coded) (c.lowest.ensures.value w.reach w.coded) in
-    omega (arith, on, c.requires.inside)
-
 pub returns : goal.returns
 returns c =
     let on : c.leads.result - c.lowest.result ≡ leads c.requires.reach c.args.c - lowest c.requires.reach =
