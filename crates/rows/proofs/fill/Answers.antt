@@ -1,11 +1,8 @@
 -- What `rows::fill` leaves to show.
 use native.Mathlib.Omega.{arith}
-use mathlib.Core.Path.{sym}
 use lib.ListN.{replicate}
-use lib.Seq.{length-take-le}
 use Rattle.lines.specs.Reading.{sheet_of}
 use Rattle.order.proofs.Taken.{order_taken}
-use Rattle.dead.proofs.Running.{lines_by_lem}
 use Rattle.spread.proofs.Asked.{known_receivers}
 use Rattle.spread.proofs.Rows.{all_room, sortable}
 use Rattle.rows.proofs.fill.Goals as goal
@@ -15,23 +12,9 @@ in_order-m-requires c = let a = c.args in
     rw c.receivers.ensures.value
     (sortable (sheet_of a.w.how a.r.now) (replicate 9999 0) (replicate 9999 0) (known_receivers _ _ c.requires) all_room all_room)
 
-pub slice_bounds-mark_killed-end : goal.slice_bounds-mark_killed-end
-slice_bounds-mark_killed-end c = sym (length-take-le _ _ c.in_order-m.ensures.order.room)
-
-pub mark_killed-requires : goal.mark_killed-requires
-mark_killed-requires c = let n = c.requires.receivers.few in
-    let m = all_room in
-    lines_by_lem _ _ _ _ _ (order_taken _ _ _ _ _ (rw c.receivers.ensures.value at c.in_order-m.ensures.order)) n (omega (arith, c.in_order-m.auto))
-
-pub slice_bounds-put_all-end : goal.slice_bounds-put_all-end
-slice_bounds-put_all-end c = sym (length-take-le _ _ c.in_order-m.ensures.order.room)
-
 pub put_all-requires : goal.put_all-requires
 put_all-requires c = let n = c.mark_killed.ensures.written in
     let rows = order_taken _ _ _ _ _ (rw c.receivers.ensures.value at c.in_order-m.ensures.order) in
     let f = c.requires.receivers.few in
     let m = all_room in
     record { set = c.requires; rows = rows; room = omega (arith, rows.few, c.in_order-m.auto, n.1); marked = n.0 }
-
-pub returns : goal.returns
-returns c = record { written = c.put_all.ensures.written }
