@@ -21,6 +21,18 @@ use Rattle.spread.specs.contracts.led.row_to as row_to
 use Rattle.spread.proofs.led.row_to.Reads as row_to_reads
 use Rattle.spread.specs.contracts.led.line_to as line_to
 use Rattle.spread.proofs.led.line_to.Reads as line_to_reads
+use Rattle.spread.specs.contracts.place.NumbersPlaces.room as numbers_room
+use Rattle.spread.proofs.place.NumbersPlaces.room.Reads as numbers_room_reads
+use Rattle.spread.specs.contracts.place.NumbersPlaces.clear as numbers_clear
+use Rattle.spread.proofs.place.NumbersPlaces.clear.Reads as numbers_clear_reads
+use Rattle.spread.specs.contracts.place.NumbersPlaces.put as numbers_put
+use Rattle.spread.proofs.place.NumbersPlaces.put.Reads as numbers_put_reads
+use Rattle.spread.specs.contracts.place.BytesPlaces.room as bytes_room
+use Rattle.spread.proofs.place.BytesPlaces.room.Reads as bytes_room_reads
+use Rattle.spread.specs.contracts.place.BytesPlaces.clear as bytes_clear
+use Rattle.spread.proofs.place.BytesPlaces.clear.Reads as bytes_clear_reads
+use Rattle.spread.specs.contracts.place.BytesPlaces.put as bytes_put
+use Rattle.spread.proofs.place.BytesPlaces.put.Reads as bytes_put_reads
 use Rattle.records.proofs.Reaches.{one_value}
 
 pub highest_one : One highest.ended highest_reads.Post
@@ -46,3 +58,21 @@ row_to_one κs a v v' w w' p p' = (one_value a.0 _ v v' p.0 p'.0, refl)
 
 pub line_to_one : One line_to.ended line_to_reads.Post
 line_to_one κs a v v' w w' p p' = (one_value a.0 _ v v' p.0 p'.0, refl)
+
+pub numbers_room_one : One numbers_room.ended numbers_room_reads.Post
+numbers_room_one κs a v v' w w' = alike
+
+pub numbers_clear_one : One numbers_clear.ended numbers_clear_reads.Post
+numbers_clear_one κs a v v' w w' p p' = (refl, both refl (both (p ∙ sym p') refl))
+
+pub numbers_put_one : One numbers_put.ended numbers_put_reads.Post
+numbers_put_one κs a v v' w w' p p' = (refl, both (p ∙ sym p') refl)
+
+pub bytes_room_one : One bytes_room.ended bytes_room_reads.Post
+bytes_room_one κs a v v' w w' = alike
+
+pub bytes_clear_one : One bytes_clear.ended bytes_clear_reads.Post
+bytes_clear_one κs a v v' w w' p p' = (refl, both refl (both (p ∙ sym p') refl))
+
+pub bytes_put_one : One bytes_put.ended bytes_put_reads.Post
+bytes_put_one κs a v v' w w' p p' = (refl, both (p ∙ sym p') refl)
