@@ -24,6 +24,7 @@ pub fn record(tape: &[u8], number: u64) -> bool
 }
 
 // A channel, 1 to 9,999.
+#[tactic(auto, unfolding(rules::specs::Questions::channel_asked, rules::specs::Layout::sps93))]
 pub fn channel(number: u64) -> bool
     ensures value { result ≡ channel_asked sps93 number }
 {
@@ -31,6 +32,7 @@ pub fn channel(number: u64) -> bool
 }
 
 // An R line, 1 to 9,999.
+#[tactic(auto, unfolding(rules::specs::Questions::line_asked, rules::specs::Sheet::most_lines))]
 fn line(r_line: u64) -> bool
     ensures value { result ≡ line_asked r_line }
 {
@@ -38,6 +40,7 @@ fn line(r_line: u64) -> bool
 }
 
 // A component, 1 to 9.
+#[tactic(auto, unfolding(rules::specs::Questions::component_asked))]
 fn component(number: u64) -> bool
     ensures value { result ≡ component_asked number }
 {

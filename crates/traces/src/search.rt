@@ -34,6 +34,7 @@ fn is_here(how: Reading, r: &[u8], x: &[u8], k: usize, w: Wanted, what: Sought) 
 }
 
 // The first such line.
+#[tactic(auto, using(rules::proofs::Steps::least_none_yet, rules::proofs::Steps::least_more))]
 pub fn first(q: Question, r: &[u8], x: &[u8], tape: &[u8], what: Sought) -> Option<usize>
     requires { SoughtIn (sheet_of q.how r.now) what × (Known 3 (sheet_of q.how x.now) × Asked tape.now q.«record») }
     ensures value { result ≡ line_in (sheet_of q.how x.now).count

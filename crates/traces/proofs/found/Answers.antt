@@ -6,9 +6,6 @@ use Rattle.traces.proofs.Lines.{found_line}
 use Rattle.traces.proofs.Sets.{none_carries, one_carries}
 use Rattle.traces.proofs.found.Goals as goal
 
-pub first-requires : goal.first-requires
-first-requires c = (tt, (c.requires.0.relations, c.requires.1))
-
 pub returns-in_err-k : goal.returns-in_err-k
 returns-in_err-k c = record {
   answer = let a = c.args in

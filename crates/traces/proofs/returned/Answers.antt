@@ -9,12 +9,6 @@ use mathlib.Core.Path.{ap}
 use native.Mathlib.Omega.{arith}
 use Rattle.traces.proofs.returned.Goals as goal
 
-pub line_of-requires : goal.line_of-requires
-line_of-requires c = c.requires.0.1.1.0
-
-pub line_of-requires-2 : goal.line_of-requires-2
-line_of-requires-2 c = c.requires.1.0.0
-
 pub channel_of-requires : goal.channel_of-requires
 channel_of-requires c = let a = c.args in
     let p = c.requires in

@@ -6,9 +6,6 @@ use Rattle.traces.proofs.Sets.{component_small, leads_inside, leads_small, leads
 use native.Mathlib.Omega.{arith}
 use Rattle.traces.proofs.traced.Goals as goal
 
-pub line_of-requires : goal.line_of-requires
-line_of-requires c = c.requires.1.0.0
-
 pub leads-requires : goal.leads-requires
 leads-requires c = let a = c.args in
     let p = c.requires in
@@ -22,10 +19,6 @@ overflow_cast-leads c = let a = c.args in
     let s = leads_small (sheet_of a.how a.r.now) (sheet_of a.how a.x.now) p.0 a.k a.channel p.1.0 p.1.1 _ e in
     let z = c.leads.ensures.value (reach_at (sheet_of a.how a.x.now) a.k) e in
     omega arith
-
-pub receiver_line-j-requires : goal.receiver_line-j-requires
-receiver_line-j-requires c = let p = c.requires in
-    (p.0.receivers, (p.0.relations, p.1.0))
 
 pub overflow_cast-result : goal.overflow_cast-result
 overflow_cast-result c = let a = c.args in

@@ -11,9 +11,6 @@ use mathlib.Core.Path.{◌∙◌, ◌≡◌, ap, sym}
 use native.Mathlib.Omega.{arith}
 use Rattle.traces.proofs.forth.receiver_line.Goals as goal
 
-pub receiver_key-y-requires : goal.receiver_key-y-requires
-receiver_key-y-requires c = c.requires.1.1.0
-
 pub loop-j-init : goal.loop-j-init
 loop-j-init c = least_none_yet _
 

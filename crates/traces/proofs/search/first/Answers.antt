@@ -1,23 +1,12 @@
 -- What `traces::search::first` leaves to show.
 use Rattle.std.proofs.Common.{ℕ, ◌≡◌, ◌∙◌, ap, sym, arith}
 use Rattle.lines.specs.Reading.{sheet_of}
-use Rattle.rules.proofs.Steps.{least_more, least_none_yet, least_stop}
+use Rattle.rules.proofs.Steps.{least_stop}
 use Rattle.rules.specs.Places.{least}
 use Rattle.shots.proofs.Places.{found_in, none_in}
 use Rattle.traces.proofs.Lines.{walk_of}
 use Rattle.traces.specs.Steps.{finds, passes}
 use Rattle.traces.proofs.search.first.Goals as goal
-
-pub coded-w-requires : goal.coded-w-requires
-coded-w-requires c = c.requires.1.1
-
-pub loop-k-init : goal.loop-k-init
-loop-k-init c = least_none_yet _
-
-pub is_here-requires : goal.is_here-requires
-is_here-requires c = let p = c.requires in
-    let n = c.line_count-k-end.ensures.value in
-    (p.0, (p.1.0, omega arith))
 
 pub returns-then-is_here : goal.returns-then-is_here
 returns-then-is_here c = record {
@@ -30,9 +19,6 @@ returns-then-is_here c = record {
       (sym (least_stop _ _ X.count (omega arith) at.invariant (sym c.is_here.ensures.value ∙ c.if-is_here.true))
       ∙ walk_of X p.1.0 a.tape.now a.q.«record» p.1.1 _ c.coded-w.ensures.value (finds (sheet_of a.q.how a.r.now) a.what)) (omega arith);
 }
-
-pub loop-k-preserved : goal.loop-k-preserved
-loop-k-preserved c = least_more _ _ c.loop-k.invariant (sym c.is_here.ensures.value ∙ c.if-is_here.false)
 
 pub returns : goal.returns
 returns c = record {
