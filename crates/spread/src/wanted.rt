@@ -10,6 +10,7 @@ use lines::Reading;
 use records::{fits, relation};
 
 // A tape, its six bytes as one number, and the number of a record.
+// Calls pass the tape beside the record and code it here: their clauses speak of its bytes, and each would ask again what a code stands for.
 #[derive(Clone, Copy, Debug, PartialEq, Eq)]
 pub struct Wanted {
     pub tape: u64,
