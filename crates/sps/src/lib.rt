@@ -34,7 +34,7 @@ fn pack(e: Refusal) -> u64
         + u64::from(e.column)
 }
 
-// What a call answers, as one number below 2^40.
+// What a call answers, as one number. Those of accepted sets and of lines that are read stay below 2^40, where refusals begin.
 trait HostAnswer {
     ghost told_as: { Self → ℕ };
 
@@ -225,7 +225,7 @@ pub extern "C" fn sps_spread(
         tape.now «record» lines.old components.old)
         lines.old components.old result lines.new components.new }
 {
-    // A match: a closure does not say what it leaves in a lent slice, and a function for `?` would have these parameters and clauses again.
+    // A match: a function for `?` would have these parameters and clauses again.
     match reading(medium) {
         Ok(how) => {
             let q = Question { how, record };
@@ -267,7 +267,7 @@ pub extern "C" fn sps_traces(
     ensures written { rows.new
         ≡ rows_in (choice medium) r.now s.now x.now first rows.old }
 {
-    // A match, as above.
+    // A match, as in `sps_spread`.
     match reading(medium) {
         Ok(how) => number(traces::rows(how, r, s, x, first, rows)),
         Err(e) => pack(e),
