@@ -3,13 +3,18 @@ ghost use Rattle.std.specs.Prelude.{◌≡◌, ℕ, ◌<◌, ◌≤◌, List};
 ghost use Rattle.rules.specs.Spread.{place, byte_place, turns, Put};
 ghost use Rattle.spread.specs.Puts.{Puts, same, numbers, bytes, count, half};
 
+// A slice of places, each of which takes one R line.
 pub trait Places {
+    // What the slice is made of.
     type Unit: Copy;
 
+    // The slice as the rules have it, a list of numbers.
     ghost held: { List Self.Unit → List ℕ };
 
+    // What is written at a place.
     ghost puts: { Put };
 
+    // How many places there are.
     ghost room: { List ℕ → ℕ };
 
     fn room(places: &[Self::Unit]) -> usize
@@ -20,14 +25,16 @@ pub trait Places {
         requires { h ≤ room (held places.old) }
         ensures written { held places.new ≡ turns (puts (λ _. 0)) h (held places.old) };
 
+    // Puts a line at a place, from 0.
     fn put(places: &mut [Self::Unit], at: usize, line: u16)
         requires { at < room (held places.old) }
         ensures written { held places.new ≡ puts (λ _. line) at (held places.old) };
 
-    // What each `impl` must prove: two slices that are read alike are the same, and places are put apart.
+    // What each `impl` must prove: two slices that are read alike are the same, places are put apart, and a put keeps how many there are.
     ghost laws: { Puts held puts room };
 }
 
+// A number a place.
 #[derive(Clone, Copy, Debug, PartialEq, Eq)]
 pub struct Numbers;
 
@@ -55,6 +62,7 @@ impl Places for Numbers {
     }
 }
 
+// Two bytes a place, low byte first; an odd last byte is none.
 #[derive(Clone, Copy, Debug, PartialEq, Eq)]
 pub struct Bytes;
 
