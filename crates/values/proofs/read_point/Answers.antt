@@ -18,7 +18,8 @@ line_of-requires c = omega (arith, there _ _ _ _ c.in_ok-one_line.ensures.verdic
 pub returns-in_err-one_line : goal.returns-in_err-one_line
 returns-in_err-one_line c = record {
   read = let p = err_from_is_err_and c.from_residual.result c.from_residual.ensures.1 in
-      rw (p.1, p.2) (of_points_lem _ _ _ _ c.kind_of-i.ensures.value (sym c.if-not-of_points.false ∙ c.of_points.ensures.value) _ c.in_err-one_line.ensures.verdict);
+      let o = sym c.if-not-of_points.false ∙ c.of_points.ensures.value in
+      rw (p.1, p.2) (of_points_lem _ _ _ _ c.kind_of-i.ensures.value o _ c.in_err-one_line.ensures.verdict);
 }
 
 pub returns : goal.returns
