@@ -12,7 +12,7 @@ use Rattle.rules.proofs.Tests.{says}
 use Rattle.rules.proofs.Sizes.{whole_small, signed_small, Small, small_more}
 use Rattle.rules.specs.Places.{pick}
 use Rattle.rules.specs.Text.{col, cols}
-use Rattle.rules.specs.Numbers.{digit, Number, malformed, digits, justified, negative, minus_or, then, pointed, decimal, size}
+use Rattle.rules.specs.Numbers.{digit, Number, malformed, digits, justified, negative, minus_or, then, pointed, decimal, tenths, size}
 use Rattle.rules.proofs.Columns.{cols_end, cols_step, cols_length, cols_at, cols_take}
 use Rattle.std.specs.Prelude.{Option, None, Some}
 use Rattle.fields.specs.Paper.{number}
@@ -119,6 +119,16 @@ module _ (read : List ℕ → Number) (l : List ℕ) (a b : ℕ) (o : 1 ≤ a) w
   pub decimal_long : a < b → tenths_of l b (read (cols l a (b - 2))) ≡ decimal read (cols l a b)
   unfolding decimal pointed tenths_of point_digit
   decimal_long h = rw (wide l a b o h, before l a b o h, last l a b o h, front l a b o h)
+
+-- tenths in either spelling, by whether there is a point
+module _ (read : List ℕ → Number) (bs : List ℕ) (t : Bool) (e : t ≡ pointed bs) where
+  pub with_point_lem : t ≡ true → decimal read bs ≡ tenths read bs
+  unfolding tenths pick
+  with_point_lem y = rw (← e, y)
+
+  pub without_point : t ≡ false → read bs ≡ tenths read bs
+  unfolding tenths pick
+  without_point n = rw (← e, n)
 
 -- none was read
 pub none_read : (o : Option Read) (v : Number) → number o ≡ v → o ≡ None → malformed ≡ v
