@@ -1,14 +1,15 @@
 -- What the code computes of a relation line, from the values that it holds.
 --   paper_reach q   = a reach of the paper that q codes
-use Prim.Native.Nat.{ℕ}
+use Prim.Native.Nat.{ℕ, ◌-◌, ◌*◌, ◌/◌, ◌%◌, ◌≤◌, ◌<◌}
+use native.Mathlib.Nat.{div-le_self, mod-le, mul-le-mul_left}
 use native.Mathlib.Omega.{arith}
-use mathlib.Core.Path.{◌≡◌, sym, ◌∙◌}
+use mathlib.Core.Path.{◌≡◌, sym, ap, ◌∙◌}
 use mathlib.Core.Bool.{◌&&◌}
 use mathlib.Core.List.{[], ◌∷◌}
 use lib.Dec.{leb, eqb}
 use Rattle.rules.specs.Names.{Name as PaperName, text}
 use Rattle.rules.specs.Relations.{Reach as PaperReach}
-use Rattle.rules.specs.Cover.{lowest, highest, meet}
+use Rattle.rules.specs.Cover.{lowest, highest, receiver_on, leads, meet}
 use Rattle.rules.proofs.Cover.{meet_overlap}
 use Rattle.fields.specs.declared.Name.{Name}
 use Rattle.fields.specs.Packed.{packed_after, packed, name_of}
@@ -60,6 +61,21 @@ reach_coded q = λ i.
 pub one_value : {A : Type 0} (q : Reach) (f : PaperReach → A) (v w : A) → ((p : PaperReach) → q ≡ coded_reach p → v ≡ f p)
     → ((p : PaperReach) → q ≡ coded_reach p → w ≡ f p) → v ≡ w
 one_value q f v w h g = h (paper_reach q) (reach_coded q) ∙ sym (g (paper_reach q) (reach_coded q))
+
+-- from a channel to its receiver
+pub leads_to : (p : PaperReach) (q : Reach) → q ≡ coded_reach p → (c : ℕ) → receiver_on p ((c - q.from) / q.step) ≡ leads p c
+unfolding leads
+leads_to p q e c = ap (λ (q : Reach). receiver_on p ((c - q.from) / q.step)) e
+
+-- what keeps them in range
+pub quotient_small : (c f i : ℕ) → c < 4294967296 → (c - f) / i < 4294967296
+quotient_small c f i h = let d = div-le_self (c - f) i in omega arith
+
+pub remainder_small : (c f i : ℕ) → c < 4294967296 → (c - f) % i < 4294967296
+remainder_small c f i h = let r = mod-le (c - f) i in omega arith
+
+pub product_small : (d i : ℕ) → d < 4294967296 → i < 256 → d * i < 1099511627776
+product_small d i h g = let l : d * i ≤ d * 256 = mul-le-mul_left d (omega arith) in omega arith
 
 -- receivers in common
 pub meet_is : (p q : PaperReach) (a b : Reach) → a ≡ coded_reach p → b ≡ coded_reach q → Wide p.receiver → Wide q.receiver

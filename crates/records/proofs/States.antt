@@ -1,6 +1,7 @@
 -- The state of a point, from the letters of a line's own bytes.
 --   code_in                        = two letters in columns 27-28
---   code_pm, code_kl               = two letters that are one number, the high one first
+--   number_code, code_pm, code_kl  = two letters that are one number, the high one first
+--   is_marker_lem .. is_live_lem   = the state that they say
 --   marker_told, dead_told         = what a state says of a marker, and of a killed point
 use Prim.Native.Nat.{ℕ, ◌+◌, ◌*◌, ◌/◌, ◌%◌, ◌<◌}
 use native.Mathlib.Omega.{arith}
@@ -50,17 +51,32 @@ pair_is a b c n h e =
     let q = (and_is (eqb (c % 256) b) true).0 p.1 in
     eq-eqb c n (omega (arith, eqb-true (c / 256) a p.0, eqb-true (c % 256) b q.0)))
 
-number_code : (a b c n : ℕ) → b < 256 → n ≡ 256 * a + b → same (bytes_of 2 c) (a ∷ b ∷ []) ≡ eqb c n
+pub number_code : (a b c n : ℕ) → b < 256 → n ≡ 256 * a + b → eqb c n ≡ same (bytes_of 2 c) (a ∷ b ∷ [])
 unfolding same bytes_of
-number_code a b c n h e = sym (pair_is a b c n h e)
+number_code a b c n h e = pair_is a b c n h e
 
 pub code_pm : (c : ℕ) → same (bytes_of 2 c) (80 ∷ 77 ∷ []) ≡ eqb c 20557
-code_pm c = number_code 80 77 c 20557 (omega arith) (omega arith)
+code_pm c = sym (number_code 80 77 c 20557 (omega arith) (omega arith))
 
 pub code_kl : (c : ℕ) → same (bytes_of 2 c) (75 ∷ 76 ∷ []) ≡ eqb c 19276
-code_kl c = number_code 75 76 c 19276 (omega arith) (omega arith)
+code_kl c = sym (number_code 75 76 c 19276 (omega arith) (omega arith))
 
 pub ruleset codes = (code_pm, code_kl)
+
+-- a code of two bytes
+module _ (c : List ℕ) (t : Bool) (e : t ≡ same c (80 ∷ 77 ∷ [])) where
+  pub is_marker_lem : t ≡ true → Marker ≡ coded_state (state_of c)
+  unfolding state_of pick bytes
+  is_marker_lem y = rw (sym e ∙ y)
+
+  module _ (n : t ≡ false) (u : Bool) (f : u ≡ same c (75 ∷ 76 ∷ [])) where
+    pub is_killed_lem : u ≡ true → Killed ≡ coded_state (state_of c)
+    unfolding state_of pick bytes
+    is_killed_lem y = rw (sym e ∙ n, sym f ∙ y)
+
+    pub is_live_lem : u ≡ false → Live ≡ coded_state (state_of c)
+    unfolding state_of pick bytes
+    is_live_lem y = rw (sym e ∙ n, sym f ∙ y)
 
 -- what a state says of a marker, and of a killed point
 abbrev pub marks : State → Bool
