@@ -18,7 +18,13 @@ use Rattle.rules.specs.Relations.{reach}
 use Rattle.rules.specs.Form.{stray, rule1, rule2, rule29, rule3, rule4, rule6, line_fits}
 use Rattle.rules.proofs.Breach.{run_met}
 use Rattle.rules.proofs.Steps.{need_met, need_broken, before_met, before_broken, when_on, when_off}
+use Rattle.std.specs.Prelude.{Ok}
+use Rattle.lines.specs.Paper.{Verdict, paper}
 use Rattle.form.specs.Steps.{headers_to, letter_fits, numbers_of, fields_of}
+
+-- a call that finds nothing in the first part of a plan leaves the verdict to the rest
+pub goes_on_lem : (v : Verdict) (p : Plan) → paper v ≡ run p → v ≡ Ok tt → (q : Plan) (w : Verdict) → paper w ≡ run q → paper w ≡ run (p before q)
+goes_on_lem v p e z q w y = y ∙ before_met p q (ap paper (sym z) ∙ e)
 
 pub grouped : (p q r : Plan) → run ((p before q) before r) ≡ run (p before q before r)
 unfolding run ◌or_else◌
