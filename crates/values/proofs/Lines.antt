@@ -64,14 +64,14 @@ there ok i f l e =
     stands f l ((and_is ok (line_stands f l)).0 w).1
 
 -- the verdict on a line of R or S, by the kind of its letter, and on one of X
-pub of_points_lem : (b l i : ℕ) (f : Sheet) → i ≡ kind_of b → true ≡ of_points i → (v : PaperVerdict) → v ≡ run (one_line true i f l)
+pub of_points_lem : (b l i : ℕ) (f : Sheet) (ok : Bool) → i ≡ kind_of b → ok ≡ of_points i → (v : PaperVerdict) → v ≡ run (one_line ok i f l)
     → point_verdict b f l ≡ v
 unfolding point_verdict
-of_points_lem b l i f e q v p = sym (rw (q, e) at p)
+of_points_lem b l i f ok e q v p = sym (rw (q, e) at p)
 
 pub not_of_points : (b l i : ℕ) (f : Sheet) → i ≡ kind_of b → false ≡ of_points i → point_verdict b f l ≡ refused (№ 20 0 0 0)
-unfolding point_verdict pick
-not_of_points b l i f e q = let p = one_line_is false i f l in rw (q, e) at p
+unfolding pick
+not_of_points b l i f e q = of_points_lem b l i f false e q _ (sym (one_line_is false i f l))
 
 pub of_relations : (l : ℕ) (f : Sheet) (v : PaperVerdict) → v ≡ run (one_line true file_x f l) → relation_verdict f l ≡ v
 unfolding relation_verdict

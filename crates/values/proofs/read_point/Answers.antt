@@ -19,13 +19,13 @@ pub returns-in_err-one_line : goal.returns-in_err-one_line
 returns-in_err-one_line c = record {
   read = let p = err_from_is_err_and c.from_residual.result c.from_residual.ensures.1 in
       let o = sym c.if-not-of_points.false ∙ c.of_points.ensures.value in
-      rw (p.1, p.2) (of_points_lem _ _ _ _ c.kind_of-i.ensures.value o _ c.in_err-one_line.ensures.verdict);
+      rw (p.1, p.2) (of_points_lem _ _ _ _ _ c.kind_of-i.ensures.value o _ c.in_err-one_line.ensures.verdict);
 }
 
 pub returns : goal.returns
 returns c = record {
   read = (
-    of_points_lem _ _ _ _ c.kind_of-i.ensures.value (sym c.if-not-of_points.false ∙ c.of_points.ensures.value) _ c.in_ok-one_line.ensures.verdict,
+    of_points_lem _ _ _ _ _ c.kind_of-i.ensures.value (sym c.if-not-of_points.false ∙ c.of_points.ensures.value) _ c.in_ok-one_line.ensures.verdict,
     c.point_of.ensures.value ∙ point_of_line _ _ _ _ c.line_of.ensures.value,
   );
 }
