@@ -1,7 +1,7 @@
 -- Header lines and killed points, by the characters of a line's own bytes.
 --   header_own, header_here     = H in column 1
 --   marker_here, no_marker_here = the state that says whether a line is a marker
---   killed_own, not_killed_own  = the state that says whether a line of a file is killed
+--   killed_told, killed_own, not_killed_own = the state that says whether a line of a file is killed
 use Prim.Native.Nat.{ℕ}
 use mathlib.Core.Path.{◌≡◌, refl, sym, ap, ◌∙◌}
 use mathlib.Core.Bool.{true, false}
@@ -49,19 +49,20 @@ module _ (L : Layout) (l : List ℕ) where
       others Marker m = absurd (m refl)
 
 -- whether a line of a file is killed, by the state of its own bytes
+pub killed_told : (how : Reading) (f : List ℕ) (k : ℕ) (l : List ℕ) → l ≡ take 80 ((sheet_of how f).raw k)
+    → (s : State) → s ≡ coded_state (state_of (at (ranked (medium_of how).char_of l) sps93.code)) → dies s ≡ is_killed (point_at (sheet_of how f) k)
+unfolding is_killed point_at point
+killed_told how f k l e s q = rw (q, e, ← row_own how f k, layout_is how f) (dead_told (state_of (at ((sheet_of how f).row k) sps93.code)))
+
 module _ (how : Reading) (f : List ℕ) (k : ℕ) where
   abbrev own_state : State
   own_state = coded_state (state_of (at (ranked (medium_of how).char_of (take 80 ((sheet_of how f).raw k))) sps93.code))
 
-  killed_told : dies own_state ≡ is_killed (point_at (sheet_of how f) k)
-  unfolding is_killed point_at point
-  killed_told = rw (← row_own how f k, layout_is how f) (dead_told (state_of (at ((sheet_of how f).row k) sps93.code)))
-
   pub killed_own : own_state ≡ Killed → true ≡ is_killed (point_at (sheet_of how f) k)
-  killed_own e = ap dies (sym e) ∙ killed_told
+  killed_own e = ap dies (sym e) ∙ killed_told how f k _ refl _ refl
 
   pub not_killed_own : (own_state ≡ Killed → ⊥) → false ≡ is_killed (point_at (sheet_of how f) k)
-  not_killed_own n = others own_state n ∙ killed_told
+  not_killed_own n = others own_state n ∙ killed_told how f k _ refl _ refl
     where
       others : (s : State) → (s ≡ Killed → ⊥) → false ≡ dies s
       others Live m = refl
