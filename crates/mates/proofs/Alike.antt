@@ -4,6 +4,7 @@ use mathlib.Core.List.{List}
 use mathlib.Core.Path.{◌≡◌, refl, sym, ap, ap₂, ◌∙◌}
 use mathlib.Core.Bool.{Bool, true, false, ◌&&◌}
 use lib.Dec.{eqb}
+use borrow.Author.Tests.{eq-eqb}
 use Rattle.rules.specs.Text.{cols}
 use Rattle.rules.specs.Names.{same_name}
 use Rattle.rules.specs.Layout.{Layout, sps93}
@@ -18,6 +19,7 @@ use Rattle.form.specs.Known.{owned, Known}
 use Rattle.keys.specs.Compare.{same_key}
 use Rattle.keys.specs.Keys.{shot_key}
 use Rattle.keys.specs.Held.{RelationLine}
+use Rattle.keys.specs.declared.Key.{Key}
 use Rattle.keys.proofs.Read.{increment_at, instrument_at, from_at, upto_at}
 use Rattle.keys.proofs.Points.{shots_same}
 use Rattle.mates.specs.Records.{same_set}
@@ -26,6 +28,26 @@ regroup : (a b c d e : Bool) → (a && (b && (c && (d && e)))) ≡ ((a && (b && 
 regroup true true c d e = refl
 regroup true false c d e = refl
 regroup false b c d e = refl
+
+-- the key of the shot, and the rest
+module _ (x : Sheet) (z : x.layout ≡ sps93) (w : Known 3 x) (k j : ℕ) (h : RelationLine x k) (g : RelationLine x j) where
+  alike : same_shot (relation_at x k) (relation_at x j)
+      ≡ (same_key (shot_key sps93 (owned x k)) (shot_key sps93 (owned x j)) && same_set (relation_at x k) (relation_at x j))
+  unfolding same_shot same_set
+  alike =
+      let y = ap (λ (L : Layout). shot_key L (owned x k)) (sym z) in
+      let i = ap (λ (L : Layout). shot_key L (owned x j)) (sym z) in
+      let u = relation_at x k in
+      let v = relation_at x j in
+      rw (ap₂ same_key y i ∙ shots_same x w k h.0 h.1 j g.0 g.1)
+      (regroup (same_name u.source v.source) (eqb u.shot v.shot) (eqb u.shot_index v.shot_index)
+      (eqb u.increment v.increment) (eqb u.instrument v.instrument))
+
+  pub same_key_lem : (a b : Key) → a ≡ shot_key sps93 (owned x k) → b ≡ shot_key sps93 (owned x j)
+      → a.first ≡ b.first → a.second ≡ b.second → a.third ≡ b.third → (t : Bool) → t ≡ same_set (relation_at x k) (relation_at x j)
+      → t ≡ same_shot (relation_at x k) (relation_at x j)
+  unfolding same_key
+  same_key_lem a b p q e f i t u = rw (u, alike, ← p, ← q, eq-eqb _ _ e, eq-eqb _ _ f, eq-eqb _ _ i) refl
 
 -- the first and the last channel, in their columns
 module _ (how : Reading) (f : List ℕ) (w : Known 3 (sheet_of how f)) (k : ℕ) (h : RelationLine (sheet_of how f) k) where
@@ -58,15 +80,7 @@ module _ (how : Reading) (f : List ℕ) (w : Known 3 (sheet_of how f)) (k j : �
         instrument_at how f w j g m refl,
       )
 
-  -- the key of the shot, and the rest
+  -- the key of the shot, and the rest, in a file
   pub shots_alike : same_shot (relation_at x k) (relation_at x j)
       ≡ (same_key (shot_key sps93 l) (shot_key sps93 m) && same_set (relation_at x k) (relation_at x j))
-  unfolding same_shot same_set
-  shots_alike =
-      let y = ap (λ (L : Layout). shot_key L l) (sym (layout_is how f)) in
-      let i = ap (λ (L : Layout). shot_key L m) (sym (layout_is how f)) in
-      let u = relation_at x k in
-      let v = relation_at x j in
-      rw (ap₂ same_key y i ∙ shots_same x w k h.0 h.1 j g.0 g.1)
-      (regroup (same_name u.source v.source) (eqb u.shot v.shot) (eqb u.shot_index v.shot_index)
-      (eqb u.increment v.increment) (eqb u.instrument v.instrument))
+  shots_alike = alike x (layout_is how f) w k j h g
