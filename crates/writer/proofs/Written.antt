@@ -3,21 +3,23 @@ use Prim.Native.Nat.{ℕ, ◌≤◌, ◌<◌}
 use native.Mathlib.Nat.{zero-add}
 use native.Mathlib.Omega.{arith}
 use mathlib.Core.Path.{◌≡◌, refl, sym, ap, ap₂, ◌∙◌}
-use mathlib.Core.Bool.{Bool, true, false, ◌&&◌}
+use mathlib.Core.Bool.{Bool, true, false, ◌&&◌, and-true}
 use mathlib.Core.List.{List, ◌++◌}
+use lib.Dec.{leb}
 use lib.ListN.{length, drop, take-append-drop}
 use borrow.Author.Tests.{le-leb, lt-leb}
 use Rattle.rules.specs.Places.{pick}
 use Rattle.rules.specs.Plan.{fine, refused, №, run}
 use Rattle.rules.specs.Layout.{sps93}
-use Rattle.rules.specs.Lines.{letter}
+use Rattle.rules.specs.Lines.{letter, kind_of}
 use Rattle.rules.specs.Points.{State as PaperState, live, killed, marker, state_of}
 use Rattle.rules.specs.Cover.{traces, receivers}
-use Rattle.rules.specs.Rows.{relation_rows}
+use Rattle.rules.specs.Rows.{point_rows, relation_rows}
 use Rattle.rules.specs.Form.{rule6}
-use Rattle.rules.specs.Values.{relation_values}
-use Rattle.rules.specs.Writer.{writable, relation_writes, counted, writes, into}
+use Rattle.rules.specs.Values.{Value as PaperValue, point_values, relation_values}
+use Rattle.rules.specs.Writer.{writable, line_of, point_goes, point_line, same_state, point_writes, relation_writes, counted, writes, into}
 use Rattle.rules.proofs.Steps.{need_met, need_broken, before_met, before_broken}
+use Rattle.records.specs.declared.point.Point.{Point}
 use Rattle.records.specs.declared.state.State.{State}
 use Rattle.records.specs.declared.relation.Reach.{Reach}
 use Rattle.records.specs.declared.relation.Relation.{Relation}
@@ -25,7 +27,7 @@ use Rattle.records.specs.Coded.{coded_state}
 use Rattle.records.proofs.Reaches.{paper_reach}
 use Rattle.texts.specs.Buffer.{Adds}
 use Rattle.rules.specs.Carried.{bytes_of}
-use Rattle.writer.specs.Coded.{text_of, state_in, reach_of, relation_of}
+use Rattle.writer.specs.Coded.{text_of, state_in, point_of, reach_of, relation_of}
 use Rattle.std.specs.Prelude.{Some, None}
 use Rattle.writer.specs.Made.{made}
 use Rattle.writer.proofs.Spelling.{text_short}
@@ -69,6 +71,27 @@ pub into_refused : (n : ℕ) (l o : List ℕ) → o ≡ into (refused (№ n 0 0
 unfolding into
 into_refused n l o = refl
 
+-- the values of a point, by the kind of its file
+module _ (b i : ℕ) (e : i ≡ kind_of b) (c : List ℕ) (s : PaperState) (xs : ℕ → List PaperValue) where
+  abbrev goes : Bool
+  goes = point_goes b c s (xs (kind_of b))
+
+  whole : ((leb 1 i && leb i 2) && (same_state (state_of c) s && writable (point_rows sps93 i) (xs i))) ≡ goes
+  whole = ap (λ (k : ℕ). (leb 1 k && leb k 2) && (same_state (state_of c) s && writable (point_rows sps93 k) (xs k))) e
+
+  pub point_goes_lem : 1 ≤ i → i ≤ 2 → (t : Bool) → t ≡ same_state (state_of c) s → t ≡ true
+      → (u : Bool) → u ≡ writable (point_rows sps93 i) (xs i) → u ≡ goes
+  point_goes_lem o h t q y u f = f ∙ (rw (le-leb 1 i o, le-leb i 2 h, ← q, y)) ∙ whole
+
+-- those of a record
+module _ (b : ℕ) (p : Point) (xs : List PaperValue) (e : xs ≡ point_values (point_of p)) where
+  pub point_writes_lem : point_goes b (text_of 2 0 p.code) (state_in p.state) xs ≡ point_writes b (point_of p)
+  unfolding point_writes point_of
+  point_writes_lem = rw e
+
+  pub point_text_lem : line_of (letter (kind_of b)) (point_rows sps93 (kind_of b)) xs ≡ point_line (kind_of b) (point_of p)
+  point_text_lem = rw e
+
 -- a line that is made
 pub made_none : (ok : Bool) (l : List ℕ) → None ≡ made ok l → ok ≡ false
 made_none true l e = cc
@@ -83,6 +106,11 @@ pub relation_made : (q : Relation) → relation_writes (relation_of q)
     ≡ (writable (relation_rows sps93) (relation_values (relation_of q)) && counted (reach_of q.reach))
 unfolding relation_writes relation_of
 relation_made q = refl
+
+pub relation_goes_lem : (q : Relation) (t : Bool) → t ≡ counted (reach_of q.reach) → t ≡ true
+    → (xs : List PaperValue) → xs ≡ relation_values (relation_of q) → (u : Bool) → u ≡ writable (relation_rows sps93) xs
+    → u ≡ relation_writes (relation_of q)
+relation_goes_lem q t e y xs g u f = rw (f, g, relation_made q, ← e, y) (sym (and-true _))
 
 pub letter_x : letter 3 ≡ 88
 unfolding letter pick
