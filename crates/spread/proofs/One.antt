@@ -1,16 +1,21 @@
 -- The contracts of this crate leave one outcome: any two results, and contents of the lent slices, that meet one of them are the same.
+use Prim.Native.Nat.{ℕ}
 use mathlib.Core.Path.{refl, sym, ◌∙◌}
 use Rattle.outcome.specs.One.{One, both, alike}
 use Rattle.spread.specs.contracts.highest as highest
 use Rattle.spread.proofs.highest.Reads as highest_reads
 use Rattle.spread.specs.contracts.fill as fill
 use Rattle.spread.proofs.fill.Reads as fill_reads
+use Rattle.spread.specs.contracts.put as put
+use Rattle.spread.proofs.put.Reads as put_reads
 use denote.RattleType.{RattleType}
+use denote.Builtin.{u8, u16}
 use denote.Param.Laws.{Laws, IsCopy}
 use mir.Syntax.{Dict}
 use Rattle.std.specs.declared.clone.Clone.{Ghosts as CloneGhosts}
 use Rattle.spread.specs.declared.place.Places.{Ghosts}
-use Rattle.spread.specs.Puts.{Puts}
+use Rattle.rules.specs.Spread.{place, byte_place}
+use Rattle.spread.specs.Puts.{Puts, same, count, half, numbers, bytes}
 use Rattle.spread.specs.contracts.wanted.coded as wanted_coded
 use Rattle.spread.proofs.wanted.coded.Reads as wanted_coded_reads
 use Rattle.spread.specs.contracts.wanted.is_of as wanted_is_of
@@ -43,6 +48,25 @@ pub fill_one : (P U : RattleType) (L : Laws P) (M : Laws U) (C : IsCopy U) (G : 
     → Puts G.held G.puts G.room → One (fill.ended P U G d K k) (fill_reads.Post P U L M C G d K k)
 fill_one P U L M C G d K k w κs a v v' l l' p p' =
     (refl, both refl (both refl (both refl (both refl (both refl (both (w.one _ _ (p.0 ∙ sym p'.0)) (both (p.1 ∙ sym p'.1) refl)))))))
+
+pub put_one : (P U : RattleType) (L : Laws P) (M : Laws U) (C : IsCopy U) (G : Ghosts P.Denot U.Denot) (d : Dict) (K : CloneGhosts U.Denot) (k : Dict)
+    → Puts G.held G.puts G.room → One (put.ended P U G d K k) (put_reads.Post P U L M C G d K k)
+put_one P U L M C G d K k w κs a v v' l l' p p' =
+    (refl, both refl (both refl (both refl (both refl (both refl (both (w.one _ _ (p.0 ∙ sym p'.0)) (both (p.1 ∙ sym p'.1) refl)))))))
+
+-- so it is of a number a place, and of two bytes a place
+module _ (P : RattleType) (L : Laws P) (d : Dict) (K : CloneGhosts ℕ) (k : Dict) where
+  abbrev by_numbers : Ghosts P.Denot ℕ
+  by_numbers = record { held = same; puts = place; room = count }
+
+  abbrev by_bytes : Ghosts P.Denot ℕ
+  by_bytes = record { held = same; puts = byte_place; room = half }
+
+  pub fill_numbers_one : (M : Laws u16) (C : IsCopy u16) → One (fill.ended P u16 by_numbers d K k) (fill_reads.Post P u16 L M C by_numbers d K k)
+  fill_numbers_one M C = fill_one P u16 L M C by_numbers d K k numbers
+
+  pub fill_bytes_one : (M : Laws u8) (C : IsCopy u8) → One (fill.ended P u8 by_bytes d K k) (fill_reads.Post P u8 L M C by_bytes d K k)
+  fill_bytes_one M C = fill_one P u8 L M C by_bytes d K k bytes
 
 pub wanted_coded_one : One wanted_coded.ended wanted_coded_reads.Post
 wanted_coded_one κs a v v' w w' = alike

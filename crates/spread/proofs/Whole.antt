@@ -30,6 +30,7 @@ use Rattle.rules.proofs.Traces.{given, found_trace, not_carried}
 use Rattle.rules.proofs.Spreads.{highest_is}
 use Rattle.lines.proofs.Tests.{untrue}
 use Rattle.form.specs.Known.{Known}
+use Rattle.form.proofs.Known.{upto_small}
 use Rattle.spread.specs.declared.wanted.Wanted.{Wanted}
 use Rattle.spread.specs.Asked.{Asked, wanted_of, is_of, Accepted}
 use Rattle.spread.specs.Taken.{taken, here, here_up_to, component_at}
@@ -97,6 +98,9 @@ module _ (x : Sheet) (t : List ℕ) (n : ℕ) (known : Known 3 x) (asked : Asked
         (λ i _ z.
         let a = (here_is x t n k (i + 1)).0 z in
         sym (eu (i + 1)) ∙ ap part (sym (found_trace r ok.shots x (meets r x ok) t n (i + 1) k h of a.1.1)) ∙ ev (i + 1)))
+
+pub highest_small : (x : Sheet) (t : List ℕ) (n : ℕ) → Known 3 x → highest_of x t n ≤ 99999999
+highest_small x t n w = (highest_is x t n 99999999).1 (λ k h o. let u = upto_small 3 x w k h in omega arith)
 
 pub no_line_lem : (put : Put) (x : Sheet) (t : List ℕ) (n : ℕ) (v : ℕ → ℕ) (m : ℕ) (d : List ℕ) → d ≡ taken put (here_up_to x t n 0) v m d
 no_line_lem put x t n v m d = none_taken put (here_up_to x t n 0) v m d (λ i _. some_none (λ j. here x t n j (i + 1)))
