@@ -1,6 +1,6 @@
 -- The rows of a part of a relation line, put one after the other.
 --   part_length     = sixteen bytes a row
---   component_low   = a component is at most the increment, and so has one digit
+--   component_few, component_low = a component is at most the increment, and so has one digit
 --   part_none, part_more = no row is put yet; one more
 use Prim.Native.Nat.{ℕ, zero, suc, ◌+◌, ◌-◌, ◌*◌, ◌%◌, ◌≤◌, ◌<◌}
 use native.Mathlib.Nat.{mod-lt}
@@ -18,7 +18,7 @@ use Rattle.rows.specs.Spliced.{spliced}
 use Rattle.rows.specs.Parts.{row_by, part_rows}
 use Rattle.rows.proofs.Splices.{low_length, spliced_none, spliced_after}
 
-component_few : (v : Reach) (c : ℕ) → 1 ≤ v.step → component v c ≤ v.step
+pub component_few : (v : Reach) (c : ℕ) → 1 ≤ v.step → component v c ≤ v.step
 unfolding component
 component_few v c h = let m : (c - v.from) % v.step < v.step = mod-lt (c - v.from) h in omega arith
 
