@@ -60,7 +60,7 @@ module _ (r x : Sheet) (i k m : ℕ) (wr : ReceiverLine r i) (wx : Known 3 x)
   pub number_small : n < 4294967296
   number_small = let a = point_number 1 r wr.0 i wr.1.0 in omega arith
 
-  by_key : (b : Bool) → b ≡ covers (reach_at x k) n → b ≡ true → 1 ≤ m → (s : ℕ) → s ≡ (reach_at x k).step → m ≤ s → (y : Key)
+  pub by_key : (b : Bool) → b ≡ covers (reach_at x k) n → b ≡ true → 1 ≤ m → (s : ℕ) → s ≡ (reach_at x k).step → m ≤ s → (y : Key)
       → y ≡ receiver_key x.layout (owned x k) n → (d : Bool) → d ≡ same_key (key_at Receivers r i) y → d ≡ reached
   by_key b e z o s es u y ey d ed =
       ed ∙ ap (same_key (key_at Receivers r i)) ey
