@@ -76,9 +76,9 @@ fn said<R: Files + Print>(
     s: &mut [u8],
     x: &mut [u8],
 ) -> io::Result<()> {
-    let i = files::load(rt, paths.r, r).input().unwrap_or(0);
-    let j = files::load(rt, paths.s, s).input().unwrap_or(0);
-    let k = files::load(rt, paths.x, x).input().unwrap_or(0);
+    let i = files::size(files::load(rt, paths.r, r).input());
+    let j = files::size(files::load(rt, paths.s, s).input());
+    let k = files::size(files::load(rt, paths.x, x).input());
     told(rt, how, &r[..i], &s[..j], &x[..k])
 }
 

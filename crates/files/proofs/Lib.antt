@@ -1,6 +1,7 @@
 pub mod Answers
 pub mod Kept
 pub mod Known
+pub mod SamePath
 pub mod Forms
 pub mod Faults
 pub mod One

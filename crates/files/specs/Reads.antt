@@ -4,14 +4,17 @@
 --   rest_of i b         = the bytes of its buffer that are not its own, where it was read
 --   next g room        = what follows on the answer g of a call, where there is room for so many bytes more
 --   came t             = how many bytes came
+--   path p             = a path by value, of the bytes p
 --   Follows room t     = t is what follows on some answer
 --   Tells o o' t r c   = t is right of a file with the bytes o left, and o' after the call: none is left; more are left than there is
 --                        room for; or those of the chunk c come first. Nothing, where they are not known or the call failed
 --   IsRead i xs b      = i is right of a file of the bytes xs: they are longer than the buffer b, or all of them stand at its start
 --   Found p l b b'     = l was found of the file at p; its bytes stand at the start of b', and b' is b after them
-use Rattle.std.specs.Prelude.{ℕ, zero, suc, ◌≤◌, ◌≡◌, List, [], leb, Option, None, Some, IfSome, Result, Ok, Err, ⊤, ◌<◌, length, take, drop}
+use Rattle.std.specs.Prelude.{ℕ, zero, suc, ◌≤◌, ◌≡◌, List, [], leb, Option, None, Some, IfSome, Result, Ok, Err, ⊤, ◌<◌, length, take, drop, replicate}
 use Rattle.std.specs.Io.KnownBytes.{Consumes, IsAtEnd}
 use Rattle.rules.specs.Places.{pick}
+use Rattle.texts.specs.Buffer.{over}
+use Rattle.files.specs.declared.input.Path.{Path}
 use Rattle.files.specs.declared.input.Unusable.{Unusable}
 use Rattle.files.specs.declared.input.Unusable.TheVariants.{Missing, Longer}
 use Rattle.files.specs.declared.input.Loaded.{Loaded}
@@ -44,6 +47,9 @@ pub record Follows (room : ℕ) (t : Step) : Type 0 where
   pub answer : Option ℕ
   pub value : t ≡ next answer room
 
+unfoldable pub path : List ℕ → Path
+path p = record { bytes = over p (replicate 4096 0); size = length p }
+
 unfoldable pub Tells : Option (List ℕ) → Option (List ℕ) → Step → ℕ → List ℕ → Type 0
 Tells o o' (Err Missing) r c = ⊤
 Tells o o' (Err Longer) r c = IfSome o (λ xs. r < length xs)
@@ -56,6 +62,6 @@ IsRead (Err Longer) xs b = length b < length xs
 IsRead (Ok n) xs b = take n b ≡ xs
 
 pub record Found (p : List ℕ) (l : Loaded) (b b' : List ℕ) : Type 0 where
-  pub from : l.path.now ≡ p
+  pub from : l.path ≡ path p
   pub fits : size_of l.input ≤ length b
   pub rest : rest_of l.input b' ≡ rest_of l.input b

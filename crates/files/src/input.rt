@@ -1,11 +1,14 @@
 // A file read into a lent buffer. `next` alone decides what follows on a call of read, from what the call answered. A call reads
 // into a chunk, and its bytes are copied to their place.
 ghost use Rattle.std.specs.Prelude.{◌≡◌, ◌≤◌, ◌<◌, IfSome, ◌++◌, length, take, drop};
-ghost use Rattle.files.specs.Reads.{size_of, rest_of, next as next_of, came, Follows, Tells, IsRead, Found};
+ghost use Rattle.files.specs.Reads.{size_of, rest_of, next as next_of, came, Follows, Tells, IsRead, path as path_of, Found};
 
 use std::fs::{File, OpenOptions};
 use std::io::{Read, Seek};
 use std::rt::Files;
+
+// The most bytes of a path that the system has room for.
+const PATH_MAX: usize = 4096;
 
 // The most bytes that one call reads.
 const CHUNK: usize = 4096;
@@ -20,16 +23,23 @@ pub enum Unusable {
 // What was found of a file: so many bytes of its buffer are its own.
 pub type Input = Result<usize, Unusable>;
 
-// What was found of the file at a path. Outside of this module nothing makes one.
+// A path by value: its bytes, and how many they are.
 #[derive(Clone, Copy, Debug, PartialEq, Eq)]
-pub struct Loaded<'a> {
-    path: &'a [u8],
+pub struct Path {
+    bytes: [u8; PATH_MAX],
+    size: usize,
+}
+
+// What was found of the file at a path, which it has by value: who asked may let its own go. Outside of this module nothing makes one.
+#[derive(Clone, Copy, Debug, PartialEq, Eq)]
+pub struct Loaded {
+    path: Path,
     input: Input,
 }
 
-impl Loaded<'_> {
+impl Loaded {
     pub fn input(self) -> Input
-        ensures value { result ≡ self.entry.input }
+        ensures value { result ≡ self.input }
     {
         self.input
     }
@@ -81,6 +91,18 @@ fn read<F: Read>(file: &mut F, buf: &mut [u8]) -> Input
     Ok(n)
 }
 
+// A path by value. One that the system has no room for is no path.
+pub fn path_of(text: &[u8]) -> Path
+    ensures value { result ≡ path_of text.now }
+{
+    let mut bytes = [0u8; PATH_MAX];
+    texts::place(text, &mut bytes);
+    Path {
+        bytes,
+        size: text.len(),
+    }
+}
+
 // Whether a FIFO stands at the path. To open one for reading waits for somebody who writes; to open it for both does not, and it has no place
 // that could be sought. A file that may not be written is taken as none.
 fn is_fifo(rt: &impl Files, path: &str) -> bool {
@@ -110,9 +132,17 @@ fn take_in<F: Read + Drop>(file: Option<F>, buf: &mut [u8]) -> Input
 }
 
 // Reads the file at a path.
-pub fn load<'a, R: Files>(rt: &R, path: &'a [u8], buf: &mut [u8]) -> Loaded<'a>
-    ensures found { Found path.now result buf.old buf.new }
+pub fn load<R: Files>(rt: &R, text: &[u8], buf: &mut [u8]) -> Loaded
+    ensures found { Found text.now result buf.old buf.new }
 {
-    let input = take_in(open(rt, path), buf);
+    let path = path_of(text);
+    let input = take_in(open(rt, text), buf);
     Loaded { path, input }
+}
+
+// How many bytes of a file were read; none of one that cannot be used.
+pub fn size(i: Input) -> usize
+    ensures value { result ≡ size_of i }
+{
+    i.unwrap_or(0)
 }

@@ -17,7 +17,7 @@ use std::rt::Files;
 
 mod input;
 
-pub use input::{Input, Loaded, Unusable, load};
+pub use input::{Input, Loaded, Unusable, load, size};
 
 // The paths of three files.
 #[derive(Clone, Copy, Debug, PartialEq, Eq)]
@@ -29,17 +29,17 @@ pub struct Paths<'a> {
 
 // What was said of three files: the length of their line, and what was found of each.
 #[derive(Clone, Copy, Debug, PartialEq, Eq)]
-pub struct Said<'a> {
+pub struct Said {
     pub size: usize,
-    pub r: Loaded<'a>,
-    pub s: Loaded<'a>,
-    pub x: Loaded<'a>,
+    pub r: Loaded,
+    pub s: Loaded,
+    pub x: Loaded,
 }
 
 // What was said of three files, and whether all of it was written.
 #[derive(Clone, Copy, Debug, PartialEq, Eq)]
-pub struct Printed<'a> {
-    pub said: Said<'a>,
+pub struct Printed {
+    pub said: Said,
     pub whole: bool,
 }
 
@@ -89,14 +89,14 @@ pub fn report(i: Input, r: &[u8], j: Input, s: &[u8], k: Input, x: &[u8], out: &
 }
 
 // Reads the files at three paths into lent buffers and says what they are.
-pub fn tell<'a, R: Files>(
+pub fn tell<R: Files>(
     rt: &R,
-    paths: Paths<'a>,
+    paths: Paths<'_>,
     r: &mut [u8],
     s: &mut [u8],
     x: &mut [u8],
     out: &mut [u8],
-) -> Said<'a>
+) -> Said
     ensures r_found { Found paths.entry.r.now result.r r.old r.new }
     ensures s_found { Found paths.entry.s.now result.s s.old s.new }
     ensures x_found { Found paths.entry.x.now result.x x.old x.new }
@@ -117,13 +117,13 @@ pub fn tell<'a, R: Files>(
 }
 
 // Prints the line of the files at three paths, read into lent buffers.
-pub fn print<'a, R: Files + Print>(
+pub fn print<R: Files + Print>(
     rt: &R,
-    paths: Paths<'a>,
+    paths: Paths<'_>,
     r: &mut [u8],
     s: &mut [u8],
     x: &mut [u8],
-) -> Printed<'a>
+) -> Printed
     ensures r_found { Found paths.entry.r.now result.said.r r.old r.new }
     ensures s_found { Found paths.entry.s.now result.said.s s.old s.new }
     ensures x_found { Found paths.entry.x.now result.said.x x.old x.new }
