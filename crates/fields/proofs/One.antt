@@ -57,6 +57,8 @@ use Rattle.fields.specs.contracts.names.pack as pack
 use Rattle.fields.proofs.names.pack.Reads as pack_reads
 use Rattle.fields.specs.contracts.names.name as name
 use Rattle.fields.proofs.names.name.Reads as name_reads
+use Rattle.fields.specs.contracts.names.same_name as same_name
+use Rattle.fields.proofs.names.same_name.Reads as same_name_reads
 use Rattle.fields.specs.contracts.fits as fits
 use Rattle.fields.proofs.fits.Reads as fits_reads
 use Rattle.fields.specs.Paper.{number}
@@ -162,6 +164,9 @@ pack_one κs a v v' w w' = alike
 
 pub name_one : One name.ended name_reads.Post
 name_one κs a v v' w w' = alike
+
+pub same_name_one : One same_name.ended same_name_reads.Post
+same_name_one κs a v v' w w' = alike
 
 pub fits_one : One fits.ended fits_reads.Post
 fits_one κs a v v' w w' = alike

@@ -1,5 +1,5 @@
 // Names and tapes as numbers: all columns count, and the numbers compare as the bytes do.
-ghost use Rattle.std.specs.Prelude.{◌≡◌, ℕ, ◌+◌, ◌≤◌, ◌<◌};
+ghost use Rattle.std.specs.Prelude.{◌≡◌, ◌&&◌, ℕ, ◌+◌, ◌≤◌, ◌<◌, eqb};
 ghost use Rattle.rules.specs.Text.{cols};
 ghost use Rattle.rules.specs.Names.{text};
 ghost use Rattle.fields.specs.Packed.{packed, name_of};
@@ -29,4 +29,11 @@ pub fn name(l: &[u8; 80], a: usize) -> Name
         hi: pack(l, a, a + 7),
         lo: pack(l, a + 8, a + 15),
     }
+}
+
+// Two names are the same: both of their numbers, and so all columns.
+pub fn same_name(m: Name, n: Name) -> bool
+    ensures value { result ≡ (eqb m.hi n.hi && eqb m.lo n.lo) }
+{
+    m == n
 }

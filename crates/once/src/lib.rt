@@ -47,7 +47,7 @@ fn lines_meet(how: Reading, x: &[u8], k: usize, j: usize) -> bool
 {
     let l = lines::own_of(how, x, k);
     let m = lines::own_of(how, x, j);
-    names::name(&l, 48) == names::name(&m, 48)
+    names::same_name(names::name(&l, 48), names::name(&m, 48))
         && cover::meets(reach_of(how, x, k), reach_of(how, x, j))
 }
 

@@ -9,6 +9,7 @@ ghost use Rattle.fields.specs.Texts.{Wide};
 ghost use Rattle.records.specs.Coded.{coded_reach};
 
 use crate::relation::Reach;
+use fields::names;
 
 // How many channels: T - F + 1.
 #[tactic(auto, unfolding(rules::specs::Cover::traces))]
@@ -124,5 +125,5 @@ fn overlap(a: Reach, b: Reach) -> bool
 pub fn meets(a: Reach, b: Reach) -> bool
     ensures value { (p q : PaperReach) → a ≡ coded_reach p → b ≡ coded_reach q → Wide p.receiver → Wide q.receiver → result ≡ meet p q }
 {
-    a.receiver == b.receiver && a.receiver_index == b.receiver_index && overlap(a, b)
+    names::same_name(a.receiver, b.receiver) && a.receiver_index == b.receiver_index && overlap(a, b)
 }
