@@ -1,12 +1,13 @@
 -- What stands last before a line, taken line by line.
 --   last_is                = what is asked of the last one, asked of its value, where none passes
+--   last_below             = the last point before a line stands above it
 --   last_here, last_other  = the last point before the next line
 use Prim.Native.Nat.{ℕ, zero, suc, ◌+◌, ◌<◌}
 use native.Mathlib.Numerals.{add-one}
 use native.Mathlib.Omega.{arith}
 use mathlib.Core.Path.{◌≡◌, refl, sym}
 use mathlib.Core.Bool.{Bool, true, false}
-use Rattle.std.specs.Prelude.{Option, Some, None}
+use Rattle.std.specs.Prelude.{Option, Some, None, IfSome}
 use Rattle.rules.specs.Places.{pick, of_last}
 use Rattle.rules.specs.Sheet.{Sheet}
 use Rattle.rules.specs.Lines.{is_point}
@@ -36,6 +37,16 @@ module _ (here : ℕ → Bool) (value : ℕ → ℕ) (k : ℕ) where
 pub none_before : (f : Sheet) → last_point f 0 ≡ None
 unfolding last_point last_of
 none_before f = refl
+
+pub last_below : (f : Sheet) (k : ℕ) → IfSome (last_point f k) (λ j. j < k)
+unfolding last_point last_of pick
+last_below f zero = tt
+last_below f (suc k) = go (is_point f k) (last_of (is_point f) (λ j. j) k) (last_below f k)
+  where
+    go : (t : Bool) (o : Option ℕ) → IfSome o (λ j. j < k) → IfSome (pick t (Some k) o) (λ j. j < suc k)
+    go true o l = omega arith
+    go false None l = tt
+    go false (Some j) l = omega arith
 
 module _ (f : Sheet) (k : ℕ) where
   pub last_here : is_point f k ≡ true → last_point f (k + 1) ≡ Some k
