@@ -125,5 +125,7 @@ fn overlap(a: Reach, b: Reach) -> bool
 pub fn meets(a: Reach, b: Reach) -> bool
     ensures value { (p q : PaperReach) → a ≡ coded_reach p → b ≡ coded_reach q → Wide p.receiver → Wide q.receiver → result ≡ meet p q }
 {
-    names::same_name(a.receiver, b.receiver) && a.receiver_index == b.receiver_index && overlap(a, b)
+    names::same_name(a.receiver, b.receiver)
+        && a.receiver_index == b.receiver_index
+        && overlap(a, b)
 }

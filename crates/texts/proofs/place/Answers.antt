@@ -1,6 +1,5 @@
 -- What `texts::place` leaves to show.
-use Rattle.std.proofs.Common.{arith, ◌∙◌, sym}
-use Rattle.std.proofs.lemmas.List.Edits.{paste_none, paste_more, paste_all, length-paste}
+use Rattle.std.proofs.lemmas.List.Edits.{paste_none}
 use Rattle.texts.proofs.place.Goals as goal
 
 pub loop-k-init : goal.loop-k-init
