@@ -4,20 +4,16 @@
 --   rises           = rows rise
 --   row_same        = a row has a key where its number is the key's
 --   up              = rows behind one that is not below a key are not below it either
---   parted, first_is = so the first that is not is where rows part
 --   row_none, row_here, row_other = the row of a key, by the first that is not below it
-use Prim.Native.Nat.{ℕ, ◌≤◌, ◌<◌}
+use Prim.Native.Nat.{ℕ, ◌<◌}
 use native.Mathlib.Nat.{eq-or-lt_of_le}
 use native.Mathlib.Omega.{arith}
-use mathlib.Core.Path.{◌≡◌, refl, sym, ap, ◌∙◌}
+use mathlib.Core.Path.{◌≡◌, sym, ap, ◌∙◌}
 use mathlib.Core.Logic.{◌↔◌, ⊎_elim}
-use mathlib.Core.Bool.{Bool, true, false, not}
+use mathlib.Core.Bool.{Bool, true, false}
 use mathlib.Core.List.{List}
 use lib.Dec.{eqb}
-use lib.ListN.{length, get_or}
-use native.Mathlib.Decide.{dec_lt}
-use Rattle.std.specs.List.Sorted.{IsPartitionedBy, IsPartitionPoint}
-use Rattle.std.proofs.lemmas.List.{get_or_default}
+use lib.ListN.{length}
 use borrow.Author.Tests.{lt-ltb}
 use Rattle.rules.specs.Places.{least}
 use Rattle.rules.specs.Plan.{up_to}
@@ -48,6 +44,7 @@ use Rattle.receivers.specs.Rows.{Rows, is_row, not_below, row_of}
 use Rattle.receivers.proofs.Values.{less_value}
 use Rattle.receivers.proofs.Below.{Below, below_is, below_join, below_same, below_self}
 use Rattle.receivers.proofs.Rising.{Rising}
+use Rattle.receivers.proofs.Halves.{Up}
 
 abbrev pub row_value : Sheet → List ℕ → ℕ → ℕ
 row_value r o e = value (key_at Receivers r (nth o e))
@@ -100,39 +97,12 @@ module _ (r : Sheet) (o : List ℕ) (w : KnownReceivers r) (v : Rows r o) where
         let b = below_is (key_at Receivers r (nth o e)) y in
         (λ t l. a.0 t (b.1 l), λ f. a.1 (λ t. f (b.0 t)))
 
-    up : (i j : ℕ) → i ≤ j → j < length o → not_below r o y i ≡ true → not_below r o y j ≡ true
+    pub up : Up (length o) (not_below r o y)
     up i j h l t =
         ⊎_elim (λ (z : i ≡ j). ap (not_below r o y) (sym z) ∙ t)
         (λ (z : i < j).
         (not_below_is j).1 (λ b. (not_below_is i).0 t (below_join _ (key_at Receivers r (nth o j)) y (row_behind i j z l) b)))
         (eq-or-lt_of_le h)
-
-    abbrev pub lower : ℕ → Bool
-    lower l = less_or (key_at Receivers r l) y false
-
-    pub parted : IsPartitionedBy lower o
-    unfolding not_below
-    parted i j d h l t = go (lower (nth o i)) refl
-      where
-        go : (b : Bool) → lower (nth o i) ≡ b → lower (get_or o i d) ≡ true
-        go true e = rw (get_or_default o i d 0 (omega arith)) e
-        go false e =
-            let u : not_below r o y j ≡ true = up i j h l (ap not e) in
-            clash (rw (rw (get_or_default o j d 0 l) at t) at u)
-
-    -- the place before which all are below y, and from which on none is
-    pub first_is : (i : ℕ) → i ≤ length o → IsPartitionPoint (λ l. lower l ≡ true) (λ l. lower l ≡ false) o i → i ≡ least (length o) (not_below r o y)
-    unfolding not_below
-    first_is i h p = go (dec_lt i (length o))
-      where
-        before : (j : ℕ) → j < i → not_below r o y j ≡ true → ⊥
-        before j l t = clash (rw (p.0 j 0 (omega arith) l) at t)
-
-        go : Dec (i < length o) → i ≡ least (length o) (not_below r o y)
-        go (yes l) = sym (least_first (length o) i (not_below r o y) (l, ap not (p.1 i 0 (omega arith) l), before))
-        go (no l) =
-            let z : i ≡ length o = omega arith in
-            z ∙ sym (least_none (length o) (not_below r o y) (λ j g. before j (omega arith)))
 
     module _ (e : ℕ) (first : e ≡ least (length o) (not_below r o y)) where
       only : (i : ℕ) → i < length o → is_row r o y i ≡ true → i ≡ e

@@ -22,12 +22,32 @@ fn is_row(how: Reading, r: &[u8], o: &[u32], e: usize, y: Key) -> bool
     keys::is_at(Keyed::receivers(how), r, o[e] as usize, y)
 }
 
-// The first row that is not below y, by halves; the number of rows where all are.
+// Row e is not below the key y.
+#[tactic(auto, unfolding(crate::specs::Rows::not_below))]
+fn not_below(how: Reading, r: &[u8], o: &[u32], e: usize, y: Key) -> bool
+    requires { e < length o.now }
+    ensures value { result ≡ not_below (sheet_of how r.now) o.now y e }
+{
+    !keys::below(Keyed::receivers(how), r, o[e] as usize, y, false)
+}
+
+// The first row that is not below y, by halves; the number of rows where all are. It is a loop: the slices' own `partition_point` goes on
+// where one row is left, and takes half as long again where rows are few.
 fn first_from(how: Reading, r: &[u8], o: &[u32], y: Key) -> usize
     requires { KnownReceivers (sheet_of how r.now) × Rows (sheet_of how r.now) o.now }
     ensures value { result ≡ least (length o.now) (not_below (sheet_of how r.now) o.now y) }
 {
-    o.partition_point(|line| keys::below(Keyed::receivers(how), r, *line as usize, y, false))
+    let mut low = 0;
+    let mut high = o.len();
+    while low < high {
+        let mid = low + (high - low) / 2;
+        if not_below(how, r, o, mid, y) {
+            high = mid;
+        } else {
+            low = mid + 1;
+        }
+    }
+    low
 }
 
 // The row of the receiver with the key y; the number of rows where there is none, as `least` of the rules has it.
