@@ -3,11 +3,21 @@ use Rattle.std.specs.Prelude.{ℕ, zero, suc, ◌≤◌, ◌≡◌, Bool, true, 
 use Rattle.std.specs.Result.{result_ok}
 use Rattle.std.specs.Io.{ReadsAtMost}
 use Rattle.std.proofs.Common.{refl, ◌<◌, sym, ◌∙◌, arith}
+use mathlib.Core.Path.{subst}
 use Prim.Native.Nat.{zero-le}
 use borrow.Author.Tests.{le-leb, lt-leb, leb-true}
 use Rattle.rules.specs.Places.{pick}
-use Rattle.files.specs.declared.input.Unusable.TheVariants.{Longer}
+use Rattle.files.specs.declared.input.Unusable.TheVariants.{Missing, Longer}
 use Rattle.files.specs.Reads.{Step, next, came, Follows}
+
+pub failed : (room : ℕ) → Err Missing ≡ next None room
+unfolding next
+failed room = refl
+
+pub ended : (m room : ℕ) → m ≡ 0 → Ok None ≡ next (Some m) room
+unfolding next
+ended zero room h = refl
+ended (suc m) room h = absurd (omega arith)
 
 pub went_over : (m room : ℕ) → (m ≡ 0 → ⊥) → room < m → Err Longer ≡ next (Some m) room
 unfolding next pick
@@ -25,7 +35,7 @@ unfolding pick
 picked_within true m k h = h
 picked_within false m k h = zero-le
 
-within : (z : Option ℕ) (room k : ℕ) → IfSome z (λ m. m ≤ k) → came (next z room) ≤ k
+pub within : (z : Option ℕ) (room k : ℕ) → IfSome z (λ m. m ≤ k) → came (next z room) ≤ k
 unfolding next
 within None room k h = zero-le
 within (Some zero) room k h = zero-le
@@ -39,6 +49,25 @@ read_within (Err e) xs b = tt
 pub came_within : {E : Type 0} (r : Result ℕ E) (xs : List ℕ) (room : ℕ) (t : Step) (z : Option ℕ) → ReadsAtMost r xs → z ≡ result_ok r → t ≡ next z room
     → came t ≤ length xs
 came_within r xs room t z b e f = rw (f, e) (within (result_ok r) room (length xs) (read_within r xs b))
+
+pub came_read :
+    {E : Type 0} (r : Result ℕ E) (xs : List ℕ) (room : ℕ) (t : Step) (z : Option ℕ) (m : ℕ) → ReadsAtMost r xs → z ≡ result_ok r
+    → t ≡ next z room → m ≡ came t → m ≤ length xs
+came_read r xs room t z m b e f g = rw g (came_within r xs room t z b e f)
+
+-- what is known of a file where no more bytes come: it cannot be read, it is longer, or it has ended
+picked_known : (P : Step → Type 0) (t : Bool) (m : ℕ) (s : Step) → P (Err Longer) → ◌≡◌ {A = Step} (pick t (Ok (Some m)) (Err Longer)) s
+    → ((j : ℕ) → s ≡ Ok (Some j) → ⊥) → P s
+unfolding pick
+picked_known P true m s q e k = absurd (k m (sym e))
+picked_known P false m s q e k = subst P e q
+
+pub known_all : (P : Step → Type 0) (z : Option ℕ) (room : ℕ) (s : Step) → P (Err Missing) → P (Err Longer) → P (Ok None) → next z room ≡ s
+    → ((j : ℕ) → s ≡ Ok (Some j) → ⊥) → P s
+unfolding next
+known_all P None room s p q r e k = subst P e p
+known_all P (Some zero) room s p q r e k = subst P e r
+known_all P (Some (suc m)) room s p q r e k = picked_known P (leb (suc m) room) (suc m) s q e k
 
 -- what came is something, and has room
 picked_came : (t : Bool) (k room m : ℕ) → (t ≡ true → suc k ≤ room) → ◌≡◌ {A = Step} (pick t (Ok (Some (suc k))) (Err Longer)) (Ok (Some m))
