@@ -31,7 +31,7 @@ regroup false b c d e = refl
 
 -- the key of the shot, and the rest
 module _ (x : Sheet) (z : x.layout ≡ sps93) (w : Known 3 x) (k j : ℕ) (h : RelationLine x k) (g : RelationLine x j) where
-  alike : same_shot (relation_at x k) (relation_at x j)
+  pub alike : same_shot (relation_at x k) (relation_at x j)
       ≡ (same_key (shot_key sps93 (owned x k)) (shot_key sps93 (owned x j)) && same_set (relation_at x k) (relation_at x j))
   unfolding same_shot same_set
   alike =
